@@ -1,0 +1,9 @@
+//! Packets, the points that a policy sees of them, and the classes of protocols.
+#![tactic(auto)]
+
+pub use packet::{Direction, Family, Packet};
+pub use point::{Point, view};
+
+mod class;
+mod packet;
+mod point;
