@@ -1,0 +1,3 @@
+pub mod Gains
+mod Fronts
+mod Faults

@@ -1,0 +1,13 @@
+use Rattle.std.proofs.Common.{refl}
+use Rattle.pair_io.proofs.Faults.{with_fault-placed, with_fault-missing}
+use Rattle.pair_io.proofs.mem_files.MemFiles.count_fault.Goals as goal
+
+pub returns-in-Some : goal.returns-in-Some
+returns-in-Some c =
+    let placed = with_fault-placed c.args.name.now c.self.inside.files.items c.in-Some.place c.self.inside.missing c.index_mut-file.result.now (rw c.deref.ensures.value at c.in-Some.ensures) c.index_mut-file.ensures.value in
+    rw (← c.self.view_is, c.one_more-file.ensures.value, placed.0, ← placed.1) refl
+
+pub returns-in-None : goal.returns-in-None
+returns-in-None c =
+    let absent = with_fault-missing c.args.name.now c.self.inside.files.items c.self.inside.missing (rw c.deref.ensures.value at c.in-None.ensures) in
+    rw (← c.self.view_is, c.one_more-self-inside.ensures.value, ← absent.0, ← absent.1) refl

@@ -1,0 +1,13 @@
+use Rattle.std.proofs.Common.{take, drop, sym, arith}
+use Rattle.std.proofs.lemmas.List.{take_rest, take-append-drop}
+use Rattle.pair_io.proofs.Gains.{GainsSoFar-more}
+use Rattle.pair_io.proofs.writing.write_all.Goals as goal
+
+pub loop-rest-preserved : goal.loop-rest-preserved
+loop-rest-preserved g c =
+    let count = c.in_ok-count.count in
+    let rest = c.loop-rest.rest.now in
+    record {
+      sent = rw take_rest (GainsSoFar-more (take count rest) (drop count rest) (sym (take-append-drop count rest)) c.loop-rest.invariant.sent c.in_ok-count.ensures.written);
+      faults = omega arith;
+    }

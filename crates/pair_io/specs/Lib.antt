@@ -1,0 +1,8 @@
+pub mod Counts
+pub mod Gains
+pub mod Reading
+pub mod Loading
+pub mod MemFile
+pub mod MemFiles
+pub mod MemSink
+pub mod Real
