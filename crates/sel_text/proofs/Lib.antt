@@ -1,0 +1,14 @@
+pub mod Digits
+pub mod Cuts
+pub mod Faults
+pub mod Dotted
+pub mod Ports
+pub mod Groups
+pub mod Sides
+pub mod Families
+pub mod Items
+pub mod Printed
+pub mod Decimals
+pub mod FourBack
+pub mod SixBack
+pub mod Orders

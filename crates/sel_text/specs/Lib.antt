@@ -1,0 +1,11 @@
+pub mod Address
+pub mod Fault
+pub mod Four
+pub mod Item
+pub mod Name
+pub mod Number
+pub mod Parts
+pub mod Port
+pub mod Reading
+pub mod Six
+pub mod Text
