@@ -1,0 +1,4 @@
+pub mod Fault
+pub mod First
+pub mod Judged
+pub mod Selects

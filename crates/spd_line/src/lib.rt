@@ -1,0 +1,28 @@
+//! Lines of a Security Policy Database: what a line selects, how it judges, and which line is first.
+#![tactic(auto)]
+
+pub use action::{Action, Ipsec, Mode};
+pub use fault::LineFault;
+pub use judgement::{Answer, Carriage, Judgement, Verdict};
+pub use line::{Line, LineParts, LineRefused, Pfp, ProtocolItem, Way};
+pub use lines::{LineList, Lines};
+pub use lists::NoMemory;
+pub use sel_text::{Address, AddressItem, Name, PortItem};
+pub use select::matches;
+pub use verdict::{judge, name_of};
+
+/// A list of address items.
+pub type AddressList = lists::List<AddressItem>;
+
+/// A list of port items.
+pub type PortList = lists::List<PortItem>;
+
+mod action;
+mod fault;
+mod judgement;
+mod line;
+mod lines;
+mod select;
+#[cfg(test)]
+mod tests;
+mod verdict;

@@ -1,0 +1,96 @@
+ghost use Rattle.std.specs.Prelude.{◌≡◌, ◌<◌, ◌∷◌, ◌++◌, [], length, List, OnOk, OnErr, slice_get};
+ghost use Rattle.std.specs.Option.{option_copied};
+ghost use Rattle.spd_line.specs.declared.line.LineParts.{LineParts};
+ghost use Rattle.spd_line.specs.First.{line_at};
+
+use crate::{Line, NoMemory};
+use std::alloc::Global;
+use std::marker::Model;
+
+/// The most lines that a `LineList` holds.
+pub const MOST_LINES: usize = 65_536;
+
+/// An ordered list of lines. Places are counted from 1.
+pub trait Lines {
+    /// The lines, first to last.
+    ghost lines: { Self → List LineParts };
+
+    /// How many lines there are.
+    fn count(&self) -> u32
+        ensures { result ≡ length (lines self.now) };
+
+    /// The line at a place; `None` exactly outside 1 to the count.
+    fn at(&self, place: u32) -> Option<&Line>
+        ensures { option_copied result ≡ line_at (lines self.now) place };
+}
+
+/// A plain list of lines, at most 65,536 of them.
+#[derive(Debug, Drop)]
+pub struct LineList {
+    lines: lists::List<Line>,
+}
+
+impl Model for LineList {
+    ghost use Rattle.std.specs.Prelude.{◌≤◌, List, length};
+    ghost use Rattle.spd_line.specs.declared.line.LineParts.{LineParts};
+
+    ghost Value = { List LineParts };
+
+    ghost view = { λ l. l.lines };
+
+    ghost invariant = { λ l. length l.lines ≤ 65536 };
+}
+
+impl LineList {
+    /// The empty list. Takes no memory.
+    pub fn new(alloc: Global) -> Self
+        ensures { result ≡ [] }
+    {
+        LineList {
+            lines: lists::List::new(alloc),
+        }
+    }
+
+    /// Puts a line at the end. Where memory is wanting, the list is unchanged and the line is dropped.
+    pub fn push(&mut self, line: Line) -> Result<(), NoMemory>
+        requires { length self.old < 65536 }
+        ensures ok { OnOk result (self.new ≡ self.old ++ line ∷ []) }
+        ensures err { OnErr result (self.new ≡ self.old) }
+    {
+        self.lines.push(line)
+    }
+
+    /// How many lines there are.
+    pub fn len(&self) -> usize
+        ensures { result ≡ length self.now }
+    {
+        self.lines.len()
+    }
+
+    /// The line at an index, which begins at 0; `None` past the end.
+    pub fn get(&self, index: usize) -> Option<&Line>
+        ensures { option_copied result ≡ slice_get self.now index }
+    {
+        self.lines.get(index)
+    }
+
+    /// All lines, in order.
+    pub fn as_slice(&self) -> &[Line]
+        ensures { result.now ≡ self.now }
+    {
+        self.lines.as_slice()
+    }
+}
+
+impl Lines for LineList {
+    ghost lines = { λ l. l };
+
+    fn count(&self) -> u32 {
+        self.lines.len() as u32
+    }
+
+    fn at(&self, place: u32) -> Option<&Line> {
+        let index = (place as usize).checked_sub(1)?;
+        self.lines.get(index)
+    }
+}
