@@ -1,0 +1,18 @@
+//! The commands of Jildravo over any files and sinks: from the words of a command to the bytes that
+//! it writes and the outcome that it ends with.
+#![tactic(auto)]
+
+pub use outcome::{Outcome, status};
+pub use running::{report, run};
+
+mod error_line;
+mod files;
+mod judging;
+mod outcome;
+mod pieces;
+mod policy;
+mod running;
+#[cfg(test)]
+mod tests;
+mod trace;
+mod verdict_line;

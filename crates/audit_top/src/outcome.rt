@@ -1,0 +1,60 @@
+ghost use Rattle.std.specs.Prelude.{◌≡◌};
+ghost use Rattle.audit_top.specs.Outcome.{status_of};
+
+use pair_io::{Failed, NoMemory};
+
+/// How a run ended. Words are counted from 1, the command being the first.
+#[derive(Clone, Copy, Debug, PartialEq, Eq)]
+pub enum Outcome {
+    /// The input was read to its end and the text written.
+    Done,
+    /// The words are those of no command.
+    Usage,
+    /// A file is in a form that isn't read yet.
+    NotYet,
+    /// The file that the word names has more bytes than it may.
+    TooLong { word: u32 },
+    /// The file that the word names couldn't be read.
+    ReadFault { word: u32 },
+    /// The text couldn't be written.
+    WriteFault,
+    /// There was no memory.
+    NoMemory,
+}
+
+impl From<NoMemory> for Outcome {
+    ghost use Rattle.std.specs.Prelude.{◌≡◌};
+    ghost use Rattle.audit_top.specs.declared.outcome.Outcome.{Outcome};
+
+    ghost from_gives = { λ _ outcome. outcome ≡ Outcome.NoMemory };
+
+    fn from(_: NoMemory) -> Outcome {
+        Outcome::NoMemory
+    }
+}
+
+impl From<Failed> for Outcome {
+    ghost use Rattle.std.specs.Prelude.{◌≡◌};
+    ghost use Rattle.audit_top.specs.declared.outcome.Outcome.{Outcome};
+
+    ghost from_gives = { λ _ outcome. outcome ≡ Outcome.WriteFault };
+
+    fn from(_: Failed) -> Outcome {
+        Outcome::WriteFault
+    }
+}
+
+/// The exit status of an outcome.
+pub fn status(outcome: &Outcome) -> u8
+    ensures { result ≡ status_of outcome.now }
+{
+    match outcome {
+        Outcome::Done => 0,
+        Outcome::Usage => 2,
+        Outcome::TooLong { .. } => 4,
+        Outcome::ReadFault { .. } => 6,
+        Outcome::WriteFault => 7,
+        Outcome::NoMemory => 8,
+        Outcome::NotYet => 9,
+    }
+}
