@@ -1,7 +1,7 @@
 -- Cutting a text at its first separator, and at all of them.
-use Rattle.std.proofs.Common.{◌≡◌, ℕ, suc, ◌+◌, Bool, true, false, not, cond, ltb, ◌==◌, List, [], ◌∷◌, ◌++◌, length, refl, ap, ◌∙◌, Option, Some, None, option_map, add-one, one-add, arith}
+use Rattle.std.proofs.Common.{◌≡◌, ℕ, suc, ◌+◌, Bool, true, false, not, cond, ltb, ◌==◌, List, [], ◌∷◌, ◌++◌, length, refl, sym, ap, ◌∙◌, Option, Some, None, option_map, add-one, one-add, arith}
 use Rattle.std.specs.List.{position_or_len, list_all, onto_first}
-use Rattle.std.proofs.lemmas.Bool.{and_parts, not-true, lt-ltb, eq-eqb}
+use Rattle.std.proofs.lemmas.Bool.{and_parts, and_from, not_from_false, not-true, ne_eqb, lt-ltb, eq-eqb, true≢false}
 use Rattle.std.proofs.lemmas.Bool.Decides.{nat_tests}
 use Rattle.sel_text.specs.Parts.{around, cut, parts}
 
@@ -18,7 +18,7 @@ around_shift n byte more true = rw (one-add, add-one, add-one)
 abbrev found_after : ℕ → List ℕ → Option ℕ
 found_after n text = cond (ltb n (length text)) (Some n) None
 
-found_shift : (n m : ℕ) → ltb (1 + n) (suc m) ≡ ltb n m
+pub found_shift : (n m : ℕ) → ltb (1 + n) (suc m) ≡ ltb n m
 found_shift n m = grind (arith, nat_tests)
 
 -- by the first byte
@@ -33,6 +33,15 @@ cut-cons separator byte more =
 -- the bytes are no separators
 abbrev pub lacks : ℕ → List ℕ → Bool
 lacks separator bytes = list_all (λ byte. not (byte == separator)) bytes
+
+-- bytes that pass a test that the separator fails
+pub tests_lack : (test : ℕ → Bool) (separator : ℕ) (bytes : List ℕ) → test separator ≡ false → list_all test bytes ≡ true → lacks separator bytes ≡ true
+tests_lack test separator [] fails all = refl
+tests_lack test separator (byte ∷ more) fails all =
+    let both = and_parts (test byte) (list_all test more) all in
+    and_from (not (byte == separator)) (lacks separator more)
+    (not_from_false (byte == separator) (ne_eqb byte separator (λ same. true≢false (sym both.0 ∙ ap test same ∙ fails))))
+    (tests_lack test separator more fails both.1)
 
 pub cut_at : (separator : ℕ) (front back : List ℕ) → lacks separator front ≡ true → cut separator (front ++ separator ∷ back) ≡ Some (front, back)
 cut_at separator [] back free = rw (cut-cons, eq-eqb separator separator refl)

@@ -1,9 +1,9 @@
 -- Four numbers with dots between them, by three cuts.
-use Rattle.std.proofs.Common.{◌≡◌, ℕ, suc, Bool, true, false, not, ◌&&◌, cond, leb, ◌==◌, List, [], ◌∷◌, length, refl, sym, ap, ◌∙◌, Option, Some, None, option_map, option_and_then, Result, Ok, Err, arith}
+use Rattle.std.proofs.Common.{◌≡◌, ℕ, suc, Bool, true, false, ◌&&◌, cond, leb, ◌==◌, List, [], ◌∷◌, length, refl, sym, ap, ◌∙◌, Option, Some, None, option_map, option_and_then, Result, Ok, Err, arith}
 use Rattle.std.specs.List.{list_all}
 use Rattle.std.specs.Char.{is_ascii_digit}
 use Rattle.std.specs.Str.Parse.{digits_value}
-use Rattle.std.proofs.lemmas.Bool.{and_parts, and_from, not_from_false, ne_eqb, true≢false, false_from_ne_true, cond-false}
+use Rattle.std.proofs.lemmas.Bool.{and_parts, ne_eqb, false_from_ne_true, cond-false}
 use Rattle.std.proofs.lemmas.Option.{none-some}
 use Rattle.std.proofs.lemmas.List.Splits.{length-slice_split}
 use Rattle.sel_text.specs.Number.{leads, is_number, number_in, number_meaning}
@@ -15,23 +15,15 @@ use Rattle.sel_text.specs.declared.fault.TextFault.{TextFault}
 use Rattle.sel_text.specs.declared.fault.TextFault.TheVariants.{NotInGrammar, OutOfRange}
 use Rattle.std.specs.Int.{from_be_bytes, w32}
 use Rattle.std.specs.Int.Digits.{number_from_digits}
-use Rattle.sel_text.proofs.Cuts.{lacks, cut_none, parts_from, parts-cut}
+use Rattle.sel_text.proofs.Cuts.{tests_lack, cut_none, parts_from, parts-cut}
 use Rattle.sel_text.proofs.Faults.{both-bounded}
-
-pub digits_lack : (separator : ℕ) (text : List ℕ) → is_ascii_digit separator ≡ false → list_all is_ascii_digit text ≡ true → lacks separator text ≡ true
-digits_lack separator [] other all = refl
-digits_lack separator (byte ∷ more) other all =
-    let both = and_parts (is_ascii_digit byte) (list_all is_ascii_digit more) all in
-    and_from (not (byte == separator)) (lacks separator more)
-    (not_from_false (byte == separator) (ne_eqb byte separator (λ same. true≢false (sym both.0 ∙ ap is_ascii_digit same ∙ other))))
-    (digits_lack separator more other both.1)
 
 -- a number has no separator
 pub number_in-cut : (separator : ℕ) (text : List ℕ) (sides : List ℕ × List ℕ) → is_ascii_digit separator ≡ false → cut separator text ≡ Some sides → number_in text ≡ None
 number_in-cut separator [] sides other is = refl
 number_in-cut separator (byte ∷ more) sides other is =
     cond-false (is_number (byte ∷ more)) (Some (digits_value 10 (byte ∷ more))) None
-    (false_from_ne_true (is_number (byte ∷ more)) (λ number. none-some sides (sym (cut_none separator (byte ∷ more) (digits_lack separator (byte ∷ more) other (and_parts (leads byte more) (list_all is_ascii_digit (byte ∷ more)) number).1)) ∙ is)))
+    (false_from_ne_true (is_number (byte ∷ more)) (λ number. none-some sides (sym (cut_none separator (byte ∷ more) (tests_lack is_ascii_digit separator (byte ∷ more) other (and_parts (leads byte more) (list_all is_ascii_digit (byte ∷ more)) number).1)) ∙ is)))
 
 -- the octets in two pairs
 abbrev pub quad : (ℕ × ℕ) × (ℕ × ℕ) → List ℕ

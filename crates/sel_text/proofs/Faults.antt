@@ -50,3 +50,12 @@ in_order-bounded fits value (Some w) = by_test (fits w)
 pub bounded-same : {W V : Type 0} (fits also : W → Bool) (value : W → V) → ((w : W) → fits w ≡ also w) → (written : Option W) → bounded fits value written ≡ bounded also value written
 bounded-same fits also value same None = refl
 bounded-same fits also value same (Some w) = ap (λ fit. cond fit (Ok (value w)) (Err OutOfRange)) (same w)
+
+-- what a text writes where it is read as something
+pub bounded_ok : {W V : Type 0} (fits : W → Bool) (value : W → V) (written : Option W) (v : V) → bounded fits value written ≡ Ok v → (w : W) × (written ≡ Some w) × (fits w ≡ true) × (value w ≡ v)
+bounded_ok fits value None v is = absurd cc
+bounded_ok {W = W} fits value (Some w) v is = by_test (fits w) refl is
+  where
+    by_test : (b : Bool) → fits w ≡ b → cond b (Ok (value w)) (Err OutOfRange) ≡ Ok v → (x : W) × (Some w ≡ Some x) × (fits x ≡ true) × (value x ≡ v)
+    by_test true fit same = (w, refl, fit, cc)
+    by_test false fit same = cc

@@ -12,9 +12,9 @@ use Rattle.sel_text.specs.Fault.{mapped}
 use Rattle.sel_text.specs.Four.{four_meaning}
 use Rattle.sel_text.specs.Reading.{quarters}
 use Rattle.sel_text.specs.Text.{four_text}
-use Rattle.sel_text.proofs.Cuts.{lacks, cut_at}
+use Rattle.sel_text.proofs.Cuts.{lacks, tests_lack, cut_at}
 use Rattle.sel_text.proofs.Decimals.{number_meaning-decimal, digits-decimal}
-use Rattle.sel_text.proofs.Dotted.{digits_lack, four_meaning_by_quarters}
+use Rattle.sel_text.proofs.Dotted.{four_meaning_by_quarters}
 use Rattle.sel_text.proofs.Families.{meaning_as_four}
 
 -- four numbers with dots between them
@@ -22,7 +22,7 @@ abbrev dotted_text : ℕ → ℕ → ℕ → ℕ → List ℕ
 dotted_text a b c d = decimal a ++ 46 ∷ (decimal b ++ 46 ∷ (decimal c ++ 46 ∷ decimal d))
 
 decimal_lacks : (separator n : ℕ) → is_ascii_digit separator ≡ false → n < 10 ^ 64 → lacks separator (decimal n) ≡ true
-decimal_lacks separator n other small = digits_lack separator (decimal n) other (digits-decimal n small)
+decimal_lacks separator n other small = tests_lack is_ascii_digit separator (decimal n) other (digits-decimal n small)
 
 cut-decimal : (n : ℕ) (back : List ℕ) → n < 256 → cut 46 (decimal n ++ 46 ∷ back) ≡ Some (decimal n, back)
 cut-decimal n back small = cut_at 46 (decimal n) back (decimal_lacks 46 n refl (omega arith))

@@ -12,3 +12,8 @@ pub mod Decimals
 pub mod FourBack
 pub mod SixBack
 pub mod Orders
+pub mod Doubles
+pub mod Spelled
+pub mod Options
+pub mod OneText
+pub mod Prefixes

@@ -1,24 +1,14 @@
 -- What is read is in order.
-use Rattle.std.proofs.Common.{◌≡◌, ℕ, Bool, true, false, ◌&&◌, cond, leb, List, Option, Some, None, option_and_then, IfSome, bytes_eq, codes, refl, subst, Ok, Err, arith}
+use Rattle.std.proofs.Common.{◌≡◌, ℕ, true, false, ◌&&◌, cond, leb, List, Option, Some, None, option_and_then, IfSome, bytes_eq, codes, subst, Ok, arith}
 use Rattle.std.proofs.lemmas.Bool.{and_parts, leb-true}
-use Rattle.sel_text.specs.declared.fault.TextFault.TheVariants.{OutOfRange}
 use Rattle.sel_text.specs.declared.item.AddressItem.{AddressItem}
 use Rattle.sel_text.specs.declared.port.PortItem.{PortItem}
-use Rattle.sel_text.specs.Fault.{bounded}
+use Rattle.sel_text.proofs.Faults.{bounded_ok}
 use Rattle.sel_text.specs.Number.{number_in}
 use Rattle.sel_text.specs.Parts.{cut, pair}
 use Rattle.sel_text.specs.Address.{WrittenAddress, dotted, grouped, address_in, address_fits}
 use Rattle.sel_text.specs.Item.{WrittenItem, any as any_address, one, prefix, range, range_in, addresses_by, item_by, item_in, item_fits, item_of, number_of, item_meaning, IsInOrder as IsAddressOrder}
 use Rattle.sel_text.specs.Port.{WrittenPort, any, opaque, numbers, every_code, type_codes, is_type_code, type_code_value, port_in, port_fits, port_of, port_meaning, IsInOrder}
-
--- what a text writes where it is read as something
-bounded_ok : {W V : Type 0} (fits : W → Bool) (value : W → V) (written : Option W) (v : V) → bounded fits value written ≡ Ok v → (w : W) × (written ≡ Some w) × (fits w ≡ true) × (value w ≡ v)
-bounded_ok fits value None v is = absurd cc
-bounded_ok {W = W} fits value (Some w) v is = by_test (fits w) refl is
-  where
-    by_test : (b : Bool) → fits w ≡ b → cond b (Ok (value w)) (Err OutOfRange) ≡ Ok v → (x : W) × (Some w ≡ Some x) × (fits x ≡ true) × (value x ≡ v)
-    by_test true fit same = (w, refl, fit, cc)
-    by_test false fit same = cc
 
 port_order : (written : WrittenPort) → port_fits written ≡ true → IsInOrder (port_of written)
 port_order any fit = tt

@@ -8,4 +8,5 @@ pub mod Parts
 pub mod Port
 pub mod Reading
 pub mod Six
+pub mod Spelling
 pub mod Text

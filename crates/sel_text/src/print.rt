@@ -6,8 +6,8 @@ use crate::address_text::{text_of_four, text_of_six};
 use itoa::Buffer;
 use lists::NoMemory;
 
-/// Appends a number in decimal digits, with no leading zero. Where memory is wanting, the text is
-/// unchanged.
+/// Appends a number in decimal digits, with no leading zero. Takes memory only where the text has to
+/// grow; where that is wanting, the text is unchanged.
 pub fn print_number(value: u128, text: &mut Vec<u8>) -> Result<(), NoMemory>
     ensures ok { OnOk result (text.new.items ≡ text.old.items ++ decimal value) }
     ensures err { OnErr result (text.new.items ≡ text.old.items) }
@@ -17,8 +17,8 @@ pub fn print_number(value: u128, text: &mut Vec<u8>) -> Result<(), NoMemory>
 }
 
 /// Appends an address: one of IPv4 as four decimal numbers with dots between them, one of IPv6 as
-/// eight groups of four lower-case hexadecimal digits with `:` between them. Where memory is
-/// wanting, the text is unchanged.
+/// eight groups of four lower-case hexadecimal digits with `:` between them. Takes memory only where
+/// the text has to grow; where that is wanting, the text is unchanged.
 pub fn print_address(address: &Address, text: &mut Vec<u8>) -> Result<(), NoMemory>
     ensures ok { OnOk result (text.new.items ≡ text.old.items ++ address_text address.now) }
     ensures err { OnErr result (text.new.items ≡ text.old.items) }
