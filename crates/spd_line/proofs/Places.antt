@@ -1,5 +1,5 @@
 -- How the first place moves along a list of lines.
-use Rattle.std.proofs.Common.{◌≡◌, ℕ, zero, suc, ◌+◌, ◌-◌, ◌≤◌, List, [], ◌∷◌, Some, None, true, false, length, drop, refl, arith, sub-one, add-one}
+use Rattle.std.proofs.Common.{◌≡◌, ℕ, zero, suc, ◌+◌, ◌-◌, ◌<◌, ◌≤◌, Bool, cond, List, [], ◌∷◌, Some, None, true, false, length, drop, refl, sym, ◌∙◌, arith, sub-one, add-one}
 use Rattle.std.proofs.Math.Nat.{le_refl}
 use Rattle.std.proofs.Math.Seq.{drop-length}
 use Rattle.std.proofs.lemmas.Option.{slice_get_past}
@@ -59,3 +59,40 @@ line_at-within lines zero low high is = omega arith
 line_at-within [] (suc k) low high is = omega arith
 line_at-within (l ∷ ls) (suc zero) low high is = cc
 line_at-within (l ∷ ls) (suc (suc k)) low high is = line_at-within ls (suc k) (omega arith) (omega arith) is
+
+-- The first place is one of the list's, or the one behind them.
+pub first_place-within : (d : Direction) (x : PointFields) (lines : List LineParts) → (1 ≤ first_place d x lines) × (first_place d x lines ≤ length lines + 1)
+first_place-within d x [] = (omega arith, omega arith)
+first_place-within d x (l ∷ ls) = within_more (selects d x l) (first_place d x ls) (length ls) (first_place-within d x ls)
+  where
+    within_more : (b : Bool) (n m : ℕ) → (1 ≤ n) × (n ≤ m + 1) → (1 ≤ cond b 1 (1 + n)) × (cond b 1 (1 + n) ≤ suc m + 1)
+    within_more true n m h = (omega arith, omega arith)
+    within_more false n m h = (omega arith, omega arith)
+
+line_at-next : (l : LineParts) (ls : List LineParts) (n : ℕ) → 1 ≤ n → line_at (l ∷ ls) (1 + n) ≡ line_at ls n
+line_at-next l ls zero some = absurd (omega arith)
+line_at-next l ls (suc m) some = let same : 1 + suc m ≡ suc (suc m) = omega arith in rw same refl
+
+-- The line at the first place selects the point.
+pub first_place-selects : (d : Direction) (x : PointFields) (lines : List LineParts) (line : LineParts) → line_at lines (first_place d x lines) ≡ Some line → selects d x line ≡ true
+first_place-selects d x [] line is = cc
+first_place-selects d x (l ∷ ls) line is = go (selects d x l) refl (first_place-selects d x ls line) is
+  where
+    go : (b : Bool) → selects d x l ≡ b → (line_at ls (first_place d x ls) ≡ Some line → selects d x line ≡ true) → line_at (l ∷ ls) (cond b 1 (1 + first_place d x ls)) ≡ Some line → selects d x line ≡ true
+    go true hit rest at = let same : l ≡ line = cc in rw (← same) hit
+    go false missed rest at = rest (sym (line_at-next l ls (first_place d x ls) (first_place-within d x ls).0) ∙ at)
+
+-- No line at a place before it does.
+pub first_place-least : (d : Direction) (x : PointFields) (lines : List LineParts) (place : ℕ) (line : LineParts) → place < first_place d x lines → line_at lines place ≡ Some line → selects d x line ≡ false
+first_place-least d x lines zero line before is = cc
+first_place-least d x [] (suc k) line before is = cc
+first_place-least d x (l ∷ ls) (suc zero) line before is = go (selects d x l) refl before
+  where
+    go : (b : Bool) → selects d x l ≡ b → 1 < cond b 1 (1 + first_place d x ls) → selects d x line ≡ false
+    go true hit low = absurd (omega arith)
+    go false missed low = let same : l ≡ line = cc in rw (← same) missed
+first_place-least d x (l ∷ ls) (suc (suc k)) line before is = go (selects d x l) (λ low. first_place-least d x ls (suc k) line low is) before
+  where
+    go : (b : Bool) → (suc k < first_place d x ls → selects d x line ≡ false) → suc (suc k) < cond b 1 (1 + first_place d x ls) → selects d x line ≡ false
+    go true rest low = absurd (omega arith)
+    go false rest low = rest (omega arith)

@@ -29,10 +29,11 @@ verdict_of d x lines =
     let place = first_place d x lines in
     record { line = place; judgement = judged_at d x (line_at lines place) }
 
--- The name of the line at a place.
+-- The name of a line, and of `final` where there is none.
 abbrev pub name_of_line : Option LineParts → List ℕ
 name_of_line None = codes "final"
 name_of_line (Some line) = line.name
 
+-- The name of the line at a place, `final` behind the last.
 abbrev pub name_at : List LineParts → ℕ → List ℕ
 name_at lines place = name_of_line (line_at lines place)

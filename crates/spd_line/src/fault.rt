@@ -1,8 +1,10 @@
 ghost use Rattle.std.specs.Prelude.{◌≡◌, Some, None, option_map};
-ghost use Rattle.std.specs.List.{list_any};
-ghost use Rattle.spd_line.specs.Fault.{families_differ, is_four, is_six, line_fault, mixes_gates, protects_one_way, shares_family};
+ghost use Rattle.spd_line.specs.Fault.{line_fault, mixes_gates, protects_one_way};
 
-use crate::{Action, Address, AddressItem, LineParts, Mode, Way};
+use crate::families::{are_mixed, has_family};
+use crate::ports::{flag_no_field, flag_opaque, have_form};
+use crate::width::is_too_wide;
+use crate::{Action, LineParts, Mode, Way};
 use std::error::Error;
 use std::fmt;
 
@@ -15,6 +17,15 @@ pub enum LineFault {
     GateFamily,
     /// No family has both a local and a remote range.
     NoFamily,
+    /// A range of ports hasn't the form of the protocol's fields: numbers for 6, 17, 33, 132 and
+    /// 136, numbers up to 255 for 135, a type and code for 1 and 58.
+    PortNoProtocol,
+    /// A port is flagged, and the protocol isn't one that has two ports.
+    PfpNoField,
+    /// A flagged selector is or has OPAQUE.
+    PfpOpaque,
+    /// There are more than 4,096 boxes.
+    TooWide,
 }
 
 impl fmt::Display for LineFault {
@@ -28,6 +39,10 @@ impl fmt::Display for LineFault {
             LineFault::ProtectOneWay => "protect one way",
             LineFault::GateFamily => "gate family",
             LineFault::NoFamily => "no family",
+            LineFault::PortNoProtocol => "port no protocol",
+            LineFault::PfpNoField => "pfp no field",
+            LineFault::PfpOpaque => "pfp opaque",
+            LineFault::TooWide => "too wide",
         })
     }
 }
@@ -46,6 +61,18 @@ pub fn fault_of(parts: &LineParts) -> Option<LineFault>
     }
     if !has_family(parts) {
         return Some(LineFault::NoFamily);
+    }
+    if !have_form(parts) {
+        return Some(LineFault::PortNoProtocol);
+    }
+    if flag_no_field(parts) {
+        return Some(LineFault::PfpNoField);
+    }
+    if flag_opaque(parts) {
+        return Some(LineFault::PfpOpaque);
+    }
+    if is_too_wide(parts) {
+        return Some(LineFault::TooWide);
     }
     None
 }
@@ -79,68 +106,5 @@ fn has_mixed_gates(action: Action) -> bool
         } => false,
         Action::Discard => false,
         Action::Bypass => false,
-    }
-}
-
-fn are_mixed(first: Address, second: Address) -> bool
-    ensures { result ≡ families_differ first second }
-{
-    match (first, second) {
-        (Address::Four(_), Address::Four(_)) => false,
-        (Address::Six(_), Address::Six(_)) => false,
-        (Address::Four(_), Address::Six(_)) => true,
-        (Address::Six(_), Address::Four(_)) => true,
-    }
-}
-
-fn has_family(parts: &LineParts) -> bool
-    ensures { result ≡ shares_family parts.now }
-{
-    let local = parts.local.as_slice();
-    let remote = parts.remote.as_slice();
-    have_four(local) && have_four(remote) || have_six(local) && have_six(remote)
-}
-
-fn have_four(items: &[AddressItem]) -> bool
-    ensures { result ≡ list_any is_four items.now }
-{
-    items.iter().any(is_of_four)
-}
-
-fn have_six(items: &[AddressItem]) -> bool
-    ensures { result ≡ list_any is_six items.now }
-{
-    items.iter().any(is_of_six)
-}
-
-fn is_of_four(item: &AddressItem) -> bool
-    ensures { result ≡ is_four item.now }
-{
-    match item {
-        AddressItem::Any => true,
-        AddressItem::Range {
-            first: Address::Four(_),
-            ..
-        } => true,
-        AddressItem::Range {
-            first: Address::Six(_),
-            ..
-        } => false,
-    }
-}
-
-fn is_of_six(item: &AddressItem) -> bool
-    ensures { result ≡ is_six item.now }
-{
-    match item {
-        AddressItem::Any => true,
-        AddressItem::Range {
-            first: Address::Four(_),
-            ..
-        } => false,
-        AddressItem::Range {
-            first: Address::Six(_),
-            ..
-        } => true,
     }
 }

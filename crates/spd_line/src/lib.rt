@@ -7,6 +7,8 @@ pub use judgement::{Answer, Carriage, Judgement, Verdict};
 pub use line::{Line, LineParts, LineRefused, Pfp, ProtocolItem, Way};
 pub use lines::{LineList, Lines};
 pub use lists::NoMemory;
+pub use pin::Pins;
+pub use pinning::pins;
 pub use sel_text::{Address, AddressItem, Name, PortItem};
 pub use select::matches;
 pub use verdict::{judge, name_of};
@@ -18,11 +20,17 @@ pub type AddressList = lists::List<AddressItem>;
 pub type PortList = lists::List<PortItem>;
 
 mod action;
+mod families;
 mod fault;
 mod judgement;
+pub mod laws;
 mod line;
 mod lines;
+mod pin;
+mod pinning;
+mod ports;
 mod select;
 #[cfg(test)]
 mod tests;
 mod verdict;
+mod width;

@@ -7,9 +7,6 @@ use crate::{Line, NoMemory};
 use std::alloc::Global;
 use std::marker::Model;
 
-/// The most lines that a `LineList` holds.
-pub const MOST_LINES: usize = 65_536;
-
 /// An ordered list of lines. Places are counted from 1.
 pub trait Lines {
     /// The lines, first to last.
@@ -27,7 +24,7 @@ pub trait Lines {
 /// A plain list of lines, at most 65,536 of them.
 #[derive(Debug, Drop)]
 pub struct LineList {
-    lines: lists::List<Line>,
+    lines: Vec<Line>,
 }
 
 impl Model for LineList {
@@ -36,9 +33,9 @@ impl Model for LineList {
 
     ghost Value = { List LineParts };
 
-    ghost view = { λ l. l.lines };
+    ghost view = { λ l. l.lines.items };
 
-    ghost invariant = { λ l. length l.lines ≤ 65536 };
+    ghost invariant = { λ l. length l.lines.items ≤ 65536 };
 }
 
 impl LineList {
@@ -47,7 +44,7 @@ impl LineList {
         ensures { result ≡ [] }
     {
         LineList {
-            lines: lists::List::new(alloc),
+            lines: Vec::new(alloc),
         }
     }
 
@@ -57,7 +54,8 @@ impl LineList {
         ensures ok { OnOk result (self.new ≡ self.old ++ line ∷ []) }
         ensures err { OnErr result (self.new ≡ self.old) }
     {
-        self.lines.push(line)
+        self.lines.push(line)?;
+        Ok(())
     }
 
     /// How many lines there are.
@@ -79,6 +77,14 @@ impl LineList {
         ensures { result.now ≡ self.now }
     {
         self.lines.as_slice()
+    }
+
+    /// The lines by themselves, in order.
+    pub fn into_vec(self) -> Vec<Line>
+        ensures { result.items ≡ self }
+    {
+        let LineList { lines } = self;
+        lines
     }
 }
 

@@ -1,7 +1,9 @@
+ghost use Rattle.std.specs.Prelude.{◌≢◌, [], IfOk};
+
 use crate::{
     Action, Address, AddressItem, AddressList, Carriage, Ipsec, Judgement, Line, LineFault,
-    LineList, LineParts, LineRefused, Lines, Mode, Name, NoMemory, Pfp, PortItem, PortList,
-    ProtocolItem, Verdict, Way, judge, matches, name_of,
+    LineList, LineParts, LineRefused, Lines, Mode, Name, NoMemory, Pfp, Pins, PortItem, PortList,
+    ProtocolItem, Verdict, Way, judge, matches, name_of, pins,
 };
 use sel_box::{Direction, Family, Packet, Point, view};
 use std::alloc::Global;
@@ -13,24 +15,70 @@ const TRANSPORT: Action = Action::Protect {
     mode: Mode::Transport,
 };
 
-// What the lines of these tests say; each list has one item, and the remote side is any.
+// What the lines of these tests say: each address list repeats one item, each port list has one.
 #[derive(Clone, Copy)]
 struct Selector {
     way: Way,
-    local: AddressItem,
+    local: (AddressItem, u32),
+    remote: (AddressItem, u32),
     protocol: ProtocolItem,
     local_port: PortItem,
     remote_port: PortItem,
-    needs_local_port: bool,
+    flags: Pfp,
 }
+
+const NO_FLAG: Pfp = Pfp {
+    local: false,
+    remote: false,
+    protocol: false,
+    local_port: false,
+    remote_port: false,
+};
+
+const LOCAL_PORT: Pfp = Pfp {
+    local: false,
+    remote: false,
+    protocol: false,
+    local_port: true,
+    remote_port: false,
+};
+
+const PROTOCOL: Pfp = Pfp {
+    local: false,
+    remote: false,
+    protocol: true,
+    local_port: false,
+    remote_port: false,
+};
 
 const ALL: Selector = Selector {
     way: Way::Both,
-    local: AddressItem::Any,
+    local: (AddressItem::Any, 1),
+    remote: (AddressItem::Any, 1),
     protocol: ProtocolItem::Any,
     local_port: PortItem::Any,
     remote_port: PortItem::Any,
-    needs_local_port: false,
+    flags: NO_FLAG,
+};
+
+const FOUR: AddressItem = AddressItem::Range {
+    first: Address::Four(1),
+    last: Address::Four(2),
+};
+
+const SIX: AddressItem = AddressItem::Range {
+    first: Address::Six(1),
+    last: Address::Six(2),
+};
+
+const WEB: PortItem = PortItem::Number {
+    first: 80,
+    last: 443,
+};
+
+const ECHO: PortItem = PortItem::TypeCode {
+    first: 2048,
+    last: 2303,
 };
 
 #[derive(Drop)]
@@ -39,11 +87,20 @@ enum Made {
     Refused(LineFault),
 }
 
+fn repeated(alloc: Global, item: AddressItem, times: u32) -> Result<AddressList, NoMemory>
+    ensures { IfOk result (λ items. items ≢ []) }
+{
+    let mut items = AddressList::new(alloc);
+    for _ in 1..times {
+        items.push(item)?;
+    }
+    items.push(item)?;
+    Ok(items)
+}
+
 fn make(alloc: Global, name: &Name, action: Action, of: &Selector) -> Result<Made, NoMemory> {
-    let mut local = AddressList::new(alloc);
-    local.push(of.local)?;
-    let mut remote = AddressList::new(alloc);
-    remote.push(AddressItem::Any)?;
+    let local = repeated(alloc, of.local.0, of.local.1)?;
+    let remote = repeated(alloc, of.remote.0, of.remote.1)?;
     let mut local_port = PortList::new(alloc);
     local_port.push(of.local_port)?;
     let mut remote_port = PortList::new(alloc);
@@ -57,13 +114,7 @@ fn make(alloc: Global, name: &Name, action: Action, of: &Selector) -> Result<Mad
         protocol: of.protocol,
         local_port,
         remote_port,
-        pfp: Pfp {
-            local: false,
-            remote: false,
-            protocol: false,
-            local_port: of.needs_local_port,
-            remote_port: false,
-        },
+        pfp: of.flags,
     });
     match made {
         Ok(line) => Ok(Made::Line(line)),
@@ -122,15 +173,12 @@ fn the_first_line_decides(rt: HostRuntime) -> Result<(), Fail> {
     let alloc = rt.alloc();
     let ping = Selector {
         protocol: ProtocolItem::Number(1),
-        local_port: PortItem::TypeCode {
-            first: 2048,
-            last: 2303,
-        },
+        local_port: ECHO,
         ..ALL
     };
     let web = Selector {
         protocol: ProtocolItem::Number(6),
-        needs_local_port: true,
+        flags: LOCAL_PORT,
         ..ALL
     };
     let mut lines = LineList::new(alloc);
@@ -219,7 +267,7 @@ fn the_gates_stand_in_the_order_of_travel(rt: HostRuntime) -> Result<(), Fail> {
 }
 
 #[test]
-fn parts_that_make_no_line_are_refused(rt: HostRuntime) -> Result<(), Fail> {
+fn the_first_fault_is_answered(rt: HostRuntime) -> Result<(), Fail> {
     let name = sel_text::read_name(b"line").expect(&rt, "a name");
     let mixed = Action::Protect {
         ipsec: Ipsec::Esp,
@@ -232,15 +280,142 @@ fn parts_that_make_no_line_are_refused(rt: HostRuntime) -> Result<(), Fail> {
         way: Way::Outbound,
         ..ALL
     };
+    let apart = Selector {
+        local: (FOUR, 1),
+        remote: (SIX, 1),
+        ..ALL
+    };
     for (action, of, fault) in [
         (TRANSPORT, one_way, LineFault::ProtectOneWay),
         (mixed, one_way, LineFault::ProtectOneWay),
-        (mixed, ALL, LineFault::GateFamily),
+        (mixed, apart, LineFault::GateFamily),
+        (TRANSPORT, apart, LineFault::NoFamily),
+        (
+            TRANSPORT,
+            ported(0, WEB, NO_FLAG),
+            LineFault::PortNoProtocol,
+        ),
+        (
+            TRANSPORT,
+            ported(1, WEB, LOCAL_PORT),
+            LineFault::PortNoProtocol,
+        ),
+        (
+            TRANSPORT,
+            ported(6, ECHO, NO_FLAG),
+            LineFault::PortNoProtocol,
+        ),
+        (
+            TRANSPORT,
+            ported(135, WEB, NO_FLAG),
+            LineFault::PortNoProtocol,
+        ),
+        (
+            TRANSPORT,
+            ported(58, ECHO, LOCAL_PORT),
+            LineFault::PfpNoField,
+        ),
+        (
+            TRANSPORT,
+            ported(1, PortItem::Opaque, LOCAL_PORT),
+            LineFault::PfpNoField,
+        ),
+        (
+            TRANSPORT,
+            ported(6, PortItem::Opaque, LOCAL_PORT),
+            LineFault::PfpOpaque,
+        ),
+        (
+            Action::Discard,
+            ranges(FOUR, 17, 241, NO_FLAG),
+            LineFault::TooWide,
+        ),
+        (
+            Action::Discard,
+            ranges(SIX, 64, 33, PROTOCOL),
+            LineFault::TooWide,
+        ),
+        (
+            Action::Discard,
+            ranges(AddressItem::Any, 64, 33, NO_FLAG),
+            LineFault::TooWide,
+        ),
     ] {
         match make(rt.alloc(), &name, action, &of)? {
             Made::Refused(found) => assert_eq!(rt; found, fault),
-            Made::Line(_) => panic!(rt; "a line"),
+            Made::Line(_) => panic!(rt; "a line in place of {fault}"),
         }
     }
     Ok(())
+}
+
+#[test]
+fn parts_within_the_rules_make_a_line(rt: HostRuntime) -> Result<(), Fail> {
+    let name = sel_text::read_name(b"line").expect(&rt, "a name");
+    for of in [
+        ported(6, WEB, LOCAL_PORT),
+        ported(
+            135,
+            PortItem::Number {
+                first: 0,
+                last: 255,
+            },
+            NO_FLAG,
+        ),
+        ported(58, ECHO, NO_FLAG),
+        ported(0, PortItem::Opaque, NO_FLAG),
+        ranges(FOUR, 64, 64, NO_FLAG),
+        ranges(SIX, 64, 32, PROTOCOL),
+        ranges(AddressItem::Any, 64, 32, NO_FLAG),
+    ] {
+        match make(rt.alloc(), &name, TRANSPORT, &of)? {
+            Made::Line(line) => assert_eq!(rt; line.parts().name, name),
+            Made::Refused(fault) => panic!(rt; "{fault}"),
+        }
+    }
+    Ok(())
+}
+
+fn ported(protocol: u8, local_port: PortItem, flags: Pfp) -> Selector {
+    Selector {
+        protocol: ProtocolItem::Number(protocol),
+        local_port,
+        flags,
+        ..ALL
+    }
+}
+
+fn ranges(item: AddressItem, local: u32, remote: u32, flags: Pfp) -> Selector {
+    Selector {
+        local: (item, local),
+        remote: (item, remote),
+        flags,
+        ..ALL
+    }
+}
+
+#[test]
+fn flags_pin_the_values_of_a_point(rt: HostRuntime) {
+    let of = Selector {
+        protocol: ProtocolItem::Number(6),
+        flags: Pfp {
+            remote: true,
+            remote_port: true,
+            ..PROTOCOL
+        },
+        ..ALL
+    };
+    let flagged = line(&rt, rt.alloc(), b"flagged", TRANSPORT, &of);
+    let point = view(Direction::Outbound, &tcp(&rt, 40000, 443));
+    assert_eq!(rt;
+        pins(&flagged, &point),
+        Pins {
+            family: Some(Family::Four),
+            local: None,
+            remote: Some(0xc000_0201),
+            protocol: Some(6),
+            local_field: None,
+            remote_field: Some(443)
+        }
+    );
 }
