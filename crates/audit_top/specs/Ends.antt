@@ -35,6 +35,7 @@ pub record Counts : Type 0 where
   pub end : ℕ
   pub written : ℕ
 
+-- The counts of files and of a sink, from their meanings.
 abbrev pub counts : (List ℕ → ℕ) → ℕ → ℕ → ℕ → Counts
 counts faults taken end written = record { faults = faults; taken = taken; end = end; written = written }
 

@@ -36,10 +36,11 @@ is_judge (command ∷ policy ∷ trace ∷ []) =
     bytes_eq command (codes "judge") && not (length policy == 0) && not (length trace == 0)
 is_judge _ = false
 
--- The most bytes of a policy file and of a trace.
+-- The most bytes of a policy file.
 abbrev pub most_policy : ℕ
 most_policy = 1048576
 
+-- The most bytes of a trace.
 abbrev pub most_trace : ℕ
 most_trace = 67108864
 
@@ -52,10 +53,11 @@ abbrev pub with_policy : Option (List LineParts) → (List LineParts → Option 
 with_policy None next = Some (ending Outcome.NotYet)
 with_policy (Some lines) next = next lines
 
--- The answer by some lines: each trace line of the file that the third word names.
+-- The answer by some lines and a trace.
 abbrev pub by_trace : List LineParts → List ℕ → Option Answer
 by_trace lines trace = Some (trace_answer lines 1 (lines_of trace))
 
+-- The answer by some lines: by the trace that the third word names.
 abbrev pub by_lines : (List ℕ → Option (List ℕ)) → List (List ℕ) → List LineParts → Option Answer
 by_lines told words lines = with_file told words 3 most_trace (by_trace lines)
 

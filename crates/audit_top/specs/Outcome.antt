@@ -1,7 +1,8 @@
--- The exit status of each outcome.
+-- How a run ends.
 use Rattle.std.specs.Prelude.{ℕ}
 use Rattle.audit_top.specs.declared.outcome.Outcome.{Outcome}
 
+-- The exit status of each outcome.
 abbrev pub status_of : Outcome → ℕ
 status_of Outcome.Done = 0
 status_of Outcome.Usage = 2

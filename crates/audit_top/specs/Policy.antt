@@ -34,11 +34,13 @@ text_at_key key members = option_and_then as_str (get_member key members)
 abbrev pub name_of : List ℕ → Option (List ℕ)
 name_of text = if bytes_eq text (codes "final") then None else result_ok (name_meaning text)
 
+-- An action that protects nothing.
 abbrev pub action_of : List ℕ → Option Action
 action_of text =
     if bytes_eq text (codes "discard") then Some Action.Discard
     else if bytes_eq text (codes "bypass") then Some Action.Bypass else None
 
+-- A direction, or both.
 abbrev pub way_of : List ℕ → Option Way
 way_of text =
     if bytes_eq text (codes "out") then Some Way.Outbound
@@ -50,16 +52,18 @@ abbrev pub way_at : Option Data → Option Way
 way_at None = Some Way.Both
 way_at (Some value) = option_and_then way_of (as_str value)
 
--- An address with a prefix length, of IPv4.
+-- A range of IPv4 addresses.
 abbrev pub is_four : AddressItem → Bool
 is_four (AddressItem.Range (Address.Four first) (Address.Four last)) = true
 is_four (AddressItem.Range _ _) = false
 is_four AddressItem.Any = false
 
+-- The item where it is a range of IPv4.
 abbrev pub prefix_item : Option AddressItem → Option AddressItem
 prefix_item None = None
 prefix_item (Some range) = if is_four range then Some range else None
 
+-- An IPv4 address with a prefix length.
 abbrev pub prefix_of : List ℕ → Option AddressItem
 prefix_of text =
     if list_any (λ byte. byte == 47) text then prefix_item (result_ok (item_meaning text)) else None
@@ -83,16 +87,18 @@ plain_line name action way local = record {
   pfp = record { local = false; remote = false; protocol = false; local_port = false; remote_port = false };
 }
 
--- The action protects nothing, and the item is ANY or a range of IPv4: such parts always make a line.
+-- The action protects nothing. With a plain item such parts always make a line.
 abbrev pub is_plain_action : Action → Bool
 is_plain_action Action.Discard = true
 is_plain_action Action.Bypass = true
 is_plain_action (Action.Protect ipsec mode) = false
 
+-- The item is ANY, or a range of IPv4.
 abbrev pub is_plain_item : AddressItem → Bool
 is_plain_item AddressItem.Any = true
 is_plain_item (AddressItem.Range first last) = is_four (AddressItem.Range first last)
 
+-- The keys that a line may have.
 abbrev pub line_keys : List (List ℕ)
 line_keys = codes "name" ∷ codes "action" ∷ codes "direction" ∷ codes "local" ∷ []
 
@@ -110,6 +116,7 @@ line_of_table members =
     (option_and_then name_of (text_at_key (codes "name") members))
     else None
 
+-- The line of a value, which is a table.
 abbrev pub line_of : Data → Option LineParts
 line_of (table members) = line_of_table members
 line_of (string text) = None
@@ -137,6 +144,7 @@ lines_behind lines (item value items) =
 abbrev pub lines_of_items : Items → Option (List LineParts)
 lines_of_items items = if nat_le (item_count items) 4096 then lines_behind [] items else None
 
+-- The lines of the value at the key of the lines, none where it isn't there.
 abbrev pub lines_at : Option Data → Option (List LineParts)
 lines_at None = Some []
 lines_at (Some (array items)) = lines_of_items items
@@ -159,6 +167,7 @@ is_one (Some (array items)) = false
 is_one (Some (table rows)) = false
 is_one None = false
 
+-- The keys that a policy may have.
 abbrev pub top_keys : List (List ℕ)
 top_keys = codes "format" ∷ codes "line" ∷ []
 

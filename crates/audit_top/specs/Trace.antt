@@ -18,11 +18,12 @@ direction_of word =
     if bytes_eq word (codes "out") then Some Outbound
     else if bytes_eq word (codes "in") then Some Inbound else None
 
--- An IPv4 address, as a number.
+-- An address of IPv4, as a number.
 abbrev pub four_of : Address → Option ℕ
 four_of (Address.Four value) = Some value
 four_of (Address.Six value) = None
 
+-- The IPv4 address that a word is.
 abbrev pub source_of : List ℕ → Option ℕ
 source_of word = option_and_then four_of (result_ok (address_meaning word))
 

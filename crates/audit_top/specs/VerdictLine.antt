@@ -5,10 +5,12 @@ use Rattle.spd_line.specs.declared.action.Ipsec.{Ipsec}
 use Rattle.spd_line.specs.declared.judgement.Carriage.{Carriage}
 use Rattle.spd_line.specs.declared.judgement.Judgement.{Judgement}
 
+-- The IPsec protocol.
 abbrev pub ipsec_text : Ipsec → List ℕ
 ipsec_text Ipsec.Esp = codes "esp"
 ipsec_text Ipsec.Ah = codes "ah"
 
+-- The mode, a tunnel with its two gates.
 abbrev pub carriage_text : Carriage → List ℕ
 carriage_text Carriage.Transport = codes " transport"
 carriage_text (Carriage.Tunnel first second) =

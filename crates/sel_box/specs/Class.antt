@@ -1,10 +1,11 @@
 -- Which fields a protocol's packets show (RFC 4301 section 4.4.1.1; numbers of the IANA registry).
 use Rattle.std.specs.Prelude.{ℕ, Bool, ◌==◌, ◌&&◌, ◌||◌, nat_le, if◌then◌else◌}
 
--- The value of an OPAQUE protocol, and of an OPAQUE field: the number after the last that a packet can carry.
+-- An OPAQUE protocol, which isn't available: the number behind the last that a packet can carry.
 abbrev pub opaque_protocol : ℕ
 opaque_protocol = 256
 
+-- An OPAQUE field, likewise.
 abbrev pub opaque_field : ℕ
 opaque_field = 65536
 

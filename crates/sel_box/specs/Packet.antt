@@ -4,6 +4,7 @@ use Rattle.sel_box.specs.declared.packet.Family.{Family}
 use Rattle.sel_box.specs.declared.packet.Family.TheVariants.{Four, Six}
 use Rattle.sel_box.specs.Class.{fields_fit, opaque_protocol}
 
+-- The values of a packet: its family, both sides, and its protocol with 256, its fields with 65536 for OPAQUE.
 pub record PacketFields : Type 0 where
   pub family : Family
   pub source : ℕ

@@ -6,6 +6,7 @@ use Rattle.sel_box.specs.declared.packet.Family.{Family}
 use Rattle.sel_box.specs.Class.{opaque_protocol, opaque_field}
 use Rattle.sel_box.specs.Packet.{PacketFields, is_packet, last_address}
 
+-- The values of a point: its family, the local and the remote side, and its protocol.
 pub record PointFields : Type 0 where
   pub family : Family
   pub local : ℕ
