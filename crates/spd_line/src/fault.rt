@@ -1,5 +1,5 @@
-ghost use Rattle.std.specs.Prelude.{◌≡◌, Some, None, option_map};
-ghost use Rattle.spd_line.specs.Fault.{line_fault, mixes_gates, protects_one_way};
+ghost use Rattle.std.specs.Prelude.{◌≡◌, ◌≤◌, Some, None, length, option_map};
+ghost use Rattle.spd_line.specs.Fault.{fault_text, line_fault, mixes_gates, protects_one_way};
 
 use crate::families::{are_mixed, has_family};
 use crate::ports::{flag_no_field, flag_opaque, have_form};
@@ -28,14 +28,13 @@ pub enum LineFault {
     TooWide,
 }
 
-impl fmt::Display for LineFault {
-    ghost use Rattle.std.specs.Prelude.{Some};
-    ghost use Rattle.spd_line.specs.Fault.{fault_text};
-
-    ghost output = { λ fault. Some (fault_text fault) };
-
-    fn fmt<W: fmt::Write>(&self, f: &mut fmt::Formatter<W>) -> fmt::Result {
-        f.write_str(match self {
+impl LineFault {
+    /// What is printed of it.
+    pub fn as_str(self) -> &'static str
+        ensures text { result.now ≡ fault_text self }
+        ensures short { length result.now ≤ 16 }
+    {
+        match self {
             LineFault::ProtectOneWay => "protect one way",
             LineFault::GateFamily => "gate family",
             LineFault::NoFamily => "no family",
@@ -43,7 +42,18 @@ impl fmt::Display for LineFault {
             LineFault::PfpNoField => "pfp no field",
             LineFault::PfpOpaque => "pfp opaque",
             LineFault::TooWide => "too wide",
-        })
+        }
+    }
+}
+
+impl fmt::Display for LineFault {
+    ghost use Rattle.std.specs.Prelude.{Some};
+    ghost use Rattle.spd_line.specs.Fault.{fault_text};
+
+    ghost output = { λ fault. Some (fault_text fault) };
+
+    fn fmt<W: fmt::Write>(&self, f: &mut fmt::Formatter<W>) -> fmt::Result {
+        f.write_str(self.as_str())
     }
 }
 

@@ -1,4 +1,4 @@
-ghost use Rattle.std.specs.Prelude.{◌≡◌, ◌<◌, ◌∷◌, ◌++◌, [], length, List, OnOk, OnErr, slice_get};
+ghost use Rattle.std.specs.Prelude.{◌≡◌, ◌<◌, ◌∷◌, ◌++◌, [], length, List, OnOk, OnErr, slice_get, vec_len};
 ghost use Rattle.std.specs.Option.{option_copied};
 ghost use Rattle.spd_line.specs.declared.line.LineParts.{LineParts};
 ghost use Rattle.spd_line.specs.First.{line_at};
@@ -81,7 +81,8 @@ impl LineList {
 
     /// The lines by themselves, in order.
     pub fn into_vec(self) -> Vec<Line>
-        ensures { result.items ≡ self }
+        ensures items { result.items ≡ self }
+        ensures len { vec_len result ≡ length self }
     {
         let LineList { lines } = self;
         lines
