@@ -1,0 +1,6 @@
+mod Each
+mod Lines
+mod Names
+mod Parses
+mod Tables
+mod Texts

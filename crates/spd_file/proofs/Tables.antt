@@ -1,0 +1,17 @@
+-- The keys and the values of TOML data, as `toml` gives them.
+use Rattle.std.proofs.Common.{◌≡◌, ℕ, Bool, List, [], ◌∷◌, ◌&&◌, String, Global, string_bytes, refl, ap}
+use Rattle.std.specs.List.{list_all}
+use Rattle.std.specs.Prelude.{map}
+use Rattle.toml.specs.View.{items_view, members_view, view}
+use Rattle.toml.specs.declared.value.Value.{Value}
+use Rattle.spd_file.specs.Line.{all_keys}
+use Rattle.spd_file.specs.Values.{values_of}
+
+pub all_keys-keys : (test : List ℕ → Bool) (entries : List (String Global × Value)) → all_keys test (members_view entries) ≡ list_all (λ key. test (string_bytes key)) (map (λ e. e.0) entries)
+all_keys-keys test [] = refl
+all_keys-keys test (e ∷ es) = ap (λ rest. test (string_bytes e.0) && rest) (all_keys-keys test es)
+
+-- The values of an array are those of its items.
+pub values_of-view : (items : List Value) → values_of (items_view items) ≡ map view items
+values_of-view [] = refl
+values_of-view (v ∷ vs) = ap (λ rest. view v ∷ rest) (values_of-view vs)

@@ -1,0 +1,22 @@
+-- Readings one after another: the first that is refused refuses them all.
+use Rattle.std.specs.Prelude.{List, [], ◌∷◌, Result, Ok, Err}
+
+-- Goes on with what was read.
+infixl 10 ◌>>=◌
+abbrev pub ◌>>=◌ : {A B E : Type 0} → Result A E → (A → Result B E) → Result B E
+Ok value >>= next = next value
+Err fault >>= next = Err fault
+
+-- Goes on where nothing was refused.
+infixl 10 ◌>>◌
+abbrev pub ◌>>◌ : {A B E : Type 0} → Result A E → Result B E → Result B E
+Ok value >> next = next
+Err fault >> next = Err fault
+
+-- What each of some values is read as, in order.
+abbrev pub each : {V A E : Type 0} → (V → Result A E) → List V → Result (List A) E
+each read [] = Ok []
+each read (value ∷ values) = do
+  first ← read value
+  rest ← each read values
+  Ok (first ∷ rest)

@@ -1,0 +1,23 @@
+//! The policy file: a TOML document of lines, and the reader that gives its lines or its first fault.
+#![tactic(auto)]
+
+pub use fault::PolicyFault;
+pub use key::{LineKey, TopKey};
+pub use line::read_line;
+pub use lists::NoMemory;
+pub use policy::read_policy;
+pub use why::Why;
+
+mod fault;
+mod flags;
+mod items;
+mod key;
+mod line;
+mod line_table;
+mod policy;
+mod table;
+#[cfg(test)]
+mod tests;
+mod value;
+mod why;
+mod word;

@@ -1,0 +1,533 @@
+use crate::{LineKey, PolicyFault, TopKey, Why, read_line, read_policy};
+use spd_line::{
+    Action, Address, AddressItem, Ipsec, LineFault, Mode, Pfp, PortItem, ProtocolItem, Way,
+};
+use std::alloc::{AllocError, Global};
+use std::test::Fail;
+
+const fn top(key: TopKey, why: Why) -> Option<PolicyFault> {
+    Some(PolicyFault::Top { key, why })
+}
+
+const fn line(index: u32, key: LineKey, why: Why) -> Option<PolicyFault> {
+    Some(PolicyFault::Line { index, key, why })
+}
+
+const fn rule(index: u32, fault: LineFault) -> Option<PolicyFault> {
+    Some(PolicyFault::Rule { index, fault })
+}
+
+#[test]
+fn policies_are_read_or_refused(rt: HostRuntime) {
+    for (text, fault) in [
+        ("", top(TopKey::Format, Why::Missing)),
+        ("format = 7", top(TopKey::Format, Why::OutOfRange)),
+        ("format = 2", top(TopKey::Format, Why::OutOfRange)),
+        ("format = -1", top(TopKey::Format, Why::OutOfRange)),
+        ("format = true", top(TopKey::Format, Why::WrongKind)),
+        ("format = 1.0", top(TopKey::Format, Why::WrongKind)),
+        ("format = \"1\"", top(TopKey::Format, Why::WrongKind)),
+        ("format = 99999999999999999999", Some(PolicyFault::Syntax)),
+        ("format = ", Some(PolicyFault::Syntax)),
+        ("format = 1\nformat = 1", Some(PolicyFault::Syntax)),
+        ("format = 1", None),
+        ("\"format\" = 1\nline = []", None),
+        ("extra = 1", top(TopKey::Unknown, Why::NotHere)),
+        ("format = 1\n\"\" = 1", top(TopKey::Unknown, Why::NotHere)),
+        ("format = 7\nline = 1", top(TopKey::Format, Why::OutOfRange)),
+        ("format = 1\nline = 1", top(TopKey::Line, Why::WrongKind)),
+        (
+            "format = 1\n[line]\nname = \"a\"",
+            top(TopKey::Line, Why::WrongKind),
+        ),
+        (
+            "format = 1\nline = [{}, 1]",
+            line(1, LineKey::Name, Why::Missing),
+        ),
+        (
+            "format = 1\nline = [1, {}]",
+            line(1, LineKey::Whole, Why::WrongKind),
+        ),
+    ] {
+        assert_eq!(rt;
+            read_policy(rt.alloc(), text.as_bytes()).err(),
+            fault,
+            "{text}"
+        );
+    }
+    assert_eq!(rt;
+        read_policy(rt.alloc(), b"format = 1 # \xff").err(),
+        Some(PolicyFault::Syntax)
+    );
+}
+
+#[test]
+fn the_first_fault_of_a_line_is_answered(rt: HostRuntime) {
+    let long = "{ name = 'aaaaaaaaaaaaaaaaaaaaaaaaaaaaaaaaaaaaaaaaaaaaaaaaaaaaaaaaaaaaaaaaa' }";
+    for (text, fault) in [
+        // Nothing may stand round the table, but a byte order mark before it.
+        ("", Some(PolicyFault::Syntax)),
+        ("name = 'a'", Some(PolicyFault::Syntax)),
+        (
+            " { name = 'a', action = 'bypass' }",
+            Some(PolicyFault::Syntax),
+        ),
+        (
+            "{ name = 'a', action = 'bypass' } ",
+            Some(PolicyFault::Syntax),
+        ),
+        (
+            "{ name = 'a', action = 'bypass' } # a",
+            Some(PolicyFault::Syntax),
+        ),
+        (
+            "{ name = 'a', action = 'bypass' }\n",
+            Some(PolicyFault::Syntax),
+        ),
+        ("\u{feff}{ name = 'a', action = 'bypass' }", None),
+        ("'a'", line(1, LineKey::Whole, Why::WrongKind)),
+        ("[{}]", line(1, LineKey::Whole, Why::WrongKind)),
+        // Keys stand in any order, quoted or not. An unknown key comes before all others.
+        ("{ action = 'bypass', \"name\" = 'a' }", None),
+        ("{ note = 1 }", line(1, LineKey::Unknown, Why::NotHere)),
+        ("{ '' = 1 }", line(1, LineKey::Unknown, Why::NotHere)),
+        ("{}", line(1, LineKey::Name, Why::Missing)),
+        ("{ name = 1 }", line(1, LineKey::Name, Why::WrongKind)),
+        ("{ name = ['a'] }", line(1, LineKey::Name, Why::WrongKind)),
+        ("{ name = '' }", line(1, LineKey::Name, Why::NotInGrammar)),
+        (
+            "{ name = 'a b' }",
+            line(1, LineKey::Name, Why::NotInGrammar),
+        ),
+        (long, line(1, LineKey::Name, Why::OutOfRange)),
+        ("{ name = 'final' }", line(1, LineKey::Name, Why::Reserved)),
+        (
+            "{ name = 'final', action = 1 }",
+            line(1, LineKey::Name, Why::Reserved),
+        ),
+        ("{ name = 'a' }", line(1, LineKey::Action, Why::Missing)),
+        (
+            "{ name = 'a', action = true }",
+            line(1, LineKey::Action, Why::WrongKind),
+        ),
+        (
+            "{ name = 'a', action = 'drop' }",
+            line(1, LineKey::Action, Why::NotInGrammar),
+        ),
+    ] {
+        assert_eq!(rt;
+            read_line(rt.alloc(), text.as_bytes()).err(),
+            fault,
+            "{text}"
+        );
+    }
+    assert_eq!(rt;
+        read_line(rt.alloc(), b"{ name = 'a\xff' }").err(),
+        Some(PolicyFault::Syntax)
+    );
+}
+
+#[test]
+fn selectors_are_read_or_refused(rt: HostRuntime) -> Result<(), Fail> {
+    for (keys, fault) in [
+        ("direction = 1", line(1, LineKey::Direction, Why::WrongKind)),
+        (
+            "direction = 'up'",
+            line(1, LineKey::Direction, Why::NotInGrammar),
+        ),
+        ("local = 1", line(1, LineKey::Local, Why::WrongKind)),
+        ("local = []", line(1, LineKey::Local, Why::Empty)),
+        // The kinds of all items come before the grammar of any, and then the first item that is refused.
+        ("local = ['x', 1]", line(1, LineKey::Local, Why::WrongKind)),
+        ("local = [['any']]", line(1, LineKey::Local, Why::WrongKind)),
+        (
+            "local = ['any', '::/129', 'x']",
+            line(1, LineKey::Local, Why::OutOfRange),
+        ),
+        (
+            "local = '10.0.0'",
+            line(1, LineKey::Local, Why::NotInGrammar),
+        ),
+        (
+            "local = '10.0.0.300'",
+            line(1, LineKey::Local, Why::OutOfRange),
+        ),
+        (
+            "local = '10.0.0.0/33'",
+            line(1, LineKey::Local, Why::OutOfRange),
+        ),
+        (
+            "local = '10.0.0.9-10.0.0.1'",
+            line(1, LineKey::Local, Why::OutOfRange),
+        ),
+        (
+            "remote = '::1-10.0.0.1'",
+            line(1, LineKey::Remote, Why::NotInGrammar),
+        ),
+        // The keys in their order, whatever their order in the text.
+        (
+            "remote = 'x', local = '10.0.0.300'",
+            line(1, LineKey::Local, Why::OutOfRange),
+        ),
+        (
+            "protocol = '6'",
+            line(1, LineKey::Protocol, Why::NotInGrammar),
+        ),
+        (
+            "protocol = 256",
+            line(1, LineKey::Protocol, Why::OutOfRange),
+        ),
+        ("protocol = -1", line(1, LineKey::Protocol, Why::OutOfRange)),
+        (
+            "protocol = true",
+            line(1, LineKey::Protocol, Why::WrongKind),
+        ),
+        ("protocol = 6.0", line(1, LineKey::Protocol, Why::WrongKind)),
+        ("protocol = [6]", line(1, LineKey::Protocol, Why::WrongKind)),
+        ("protocol = 0xff", None),
+        (
+            "protocol = 6, local_port = 443",
+            line(1, LineKey::LocalPort, Why::WrongKind),
+        ),
+        (
+            "protocol = 6, local_port = []",
+            line(1, LineKey::LocalPort, Why::Empty),
+        ),
+        (
+            "protocol = 6, local_port = '9-1'",
+            line(1, LineKey::LocalPort, Why::OutOfRange),
+        ),
+        (
+            "protocol = 6, remote_port = '09'",
+            line(1, LineKey::RemotePort, Why::NotInGrammar),
+        ),
+        (
+            "protocol = 6, remote_port = ['1', '65536']",
+            line(1, LineKey::RemotePort, Why::OutOfRange),
+        ),
+        // Only a line that protects has these keys, whatever their values are.
+        ("pfp = []", line(1, LineKey::Pfp, Why::NotHere)),
+        (
+            "pfp = 1, ipsec = 'esp'",
+            line(1, LineKey::Pfp, Why::NotHere),
+        ),
+        ("ipsec = 'esp'", line(1, LineKey::Ipsec, Why::NotHere)),
+        ("mode = 'transport'", line(1, LineKey::Mode, Why::NotHere)),
+        (
+            "gate_remote = 1, gate_local = 1",
+            line(1, LineKey::GateLocal, Why::NotHere),
+        ),
+        (
+            "gate_remote = '10.0.0.1'",
+            line(1, LineKey::GateRemote, Why::NotHere),
+        ),
+        // The rules of a line come after its keys.
+        (
+            "local = '10.0.0.1', remote = '::1'",
+            rule(1, LineFault::NoFamily),
+        ),
+        (
+            "local = '10.0.0.1', remote = '::1', mode = 1",
+            line(1, LineKey::Mode, Why::NotHere),
+        ),
+    ] {
+        let text = format!(in rt.alloc(); "{{ name = 'a', action = 'bypass', {keys} }}")?;
+        assert_eq!(rt;
+            read_line(rt.alloc(), text.as_bytes()).err(),
+            fault,
+            "{keys}"
+        );
+    }
+    Ok(())
+}
+
+#[test]
+fn protection_is_read_or_refused(rt: HostRuntime) -> Result<(), Fail> {
+    for (keys, fault) in [
+        ("pfp = 'local'", line(1, LineKey::Pfp, Why::WrongKind)),
+        ("pfp = ['x', 1]", line(1, LineKey::Pfp, Why::WrongKind)),
+        (
+            "pfp = ['local', 'name']",
+            line(1, LineKey::Pfp, Why::NotInGrammar),
+        ),
+        ("pfp = []", line(1, LineKey::Ipsec, Why::Missing)),
+        ("ipsec = 1", line(1, LineKey::Ipsec, Why::WrongKind)),
+        ("ipsec = 'ESP'", line(1, LineKey::Ipsec, Why::NotInGrammar)),
+        ("ipsec = 'esp'", line(1, LineKey::Mode, Why::Missing)),
+        (
+            "ipsec = 'esp', mode = []",
+            line(1, LineKey::Mode, Why::WrongKind),
+        ),
+        (
+            "ipsec = 'esp', mode = 'beet'",
+            line(1, LineKey::Mode, Why::NotInGrammar),
+        ),
+        (
+            "mode = 'transport', gate_local = 1",
+            line(1, LineKey::Ipsec, Why::Missing),
+        ),
+        (
+            "ipsec = 'esp', mode = 'transport', gate_local = 1",
+            line(1, LineKey::GateLocal, Why::NotHere),
+        ),
+        (
+            "ipsec = 'esp', mode = 'transport', gate_remote = 1",
+            line(1, LineKey::GateRemote, Why::NotHere),
+        ),
+        (
+            "ipsec = 'ah', mode = 'tunnel'",
+            line(1, LineKey::GateLocal, Why::Missing),
+        ),
+        (
+            "ipsec = 'ah', mode = 'tunnel', gate_local = ['::1'], gate_remote = 1",
+            line(1, LineKey::GateLocal, Why::WrongKind),
+        ),
+        (
+            "ipsec = 'ah', mode = 'tunnel', gate_local = '192.0.2.256'",
+            line(1, LineKey::GateLocal, Why::OutOfRange),
+        ),
+        (
+            "ipsec = 'ah', mode = 'tunnel', gate_local = '192.0.2.1'",
+            line(1, LineKey::GateRemote, Why::Missing),
+        ),
+        (
+            "ipsec = 'ah', mode = 'tunnel', gate_local = '192.0.2.1', gate_remote = '::/0'",
+            line(1, LineKey::GateRemote, Why::NotInGrammar),
+        ),
+        (
+            "ipsec = 'ah', mode = 'tunnel', gate_local = '192.0.2.1', gate_remote = '::1'",
+            rule(1, LineFault::GateFamily),
+        ),
+        (
+            "ipsec = 'esp', mode = 'transport', direction = 'out'",
+            rule(1, LineFault::ProtectOneWay),
+        ),
+        (
+            "ipsec = 'esp', direction = 'out'",
+            line(1, LineKey::Mode, Why::Missing),
+        ),
+        ("ipsec = 'esp', mode = 'transport'", None),
+    ] {
+        let text = format!(in rt.alloc(); "{{ name = 'a', action = 'protect', {keys} }}")?;
+        assert_eq!(rt;
+            read_line(rt.alloc(), text.as_bytes()).err(),
+            fault,
+            "{keys}"
+        );
+    }
+    Ok(())
+}
+
+#[test]
+fn lines_are_judged_in_order(rt: HostRuntime) -> Result<(), Fail> {
+    let split = "{ name = 'a', action = 'bypass', local = '10.0.0.1', remote = '::1' }";
+    let a = "{ name = 'a', action = 'bypass' }";
+    let b = "{ name = 'b', action = 'discard' }";
+    for (first, second, third, fault) in [
+        (a, b, "{ name = 'c', action = 'bypass' }", None),
+        (a, a, "{}", Some(PolicyFault::DuplicateName { index: 2 })),
+        (a, b, a, Some(PolicyFault::DuplicateName { index: 3 })),
+        (b, a, split, rule(3, LineFault::NoFamily)),
+        (split, "1", a, rule(1, LineFault::NoFamily)),
+        (
+            a,
+            "{ name = 'a', note = 1 }",
+            a,
+            line(2, LineKey::Unknown, Why::NotHere),
+        ),
+        (a, b, "1", line(3, LineKey::Whole, Why::WrongKind)),
+    ] {
+        let text = format!(in rt.alloc(); "format = 1\nline = [{first}, {second}, {third}]")?;
+        assert_eq!(rt;
+            read_policy(rt.alloc(), text.as_bytes()).err(),
+            fault,
+            "{text}"
+        );
+    }
+    Ok(())
+}
+
+#[test]
+fn a_whole_line_is_read(rt: HostRuntime) -> Result<(), Fail> {
+    let text =
+        "gate_local = '192.0.2.1'\ngate_remote = '192.0.2.2'\nmode = 'tunnel'\nipsec = 'ah'\n\
+        pfp = ['remote', 'local_port', 'remote']\nremote_port = '443'\n\
+        local_port = ['1024-65535', '22']\nprotocol = 6\nremote = '10.2.0.1-10.2.0.9'\n\
+        local = ['10.1.0.9/16', '2001:db8::/32']\ndirection = 'both'\naction = 'protect'\n\
+        name = 'vpn-1'";
+    let text = format!(in rt.alloc(); "format = 1\n[[line]]\n{text}")?;
+    let lines = read_policy(rt.alloc(), text.as_bytes())?;
+    assert_eq!(rt; lines.len(), 1);
+    let parts = lines.as_slice()[0].parts();
+    assert_eq!(rt; parts.name.as_bytes(), b"vpn-1".as_slice());
+    let mode = Mode::Tunnel {
+        gate_local: Address::Four(0xc000_0201),
+        gate_remote: Address::Four(0xc000_0202),
+    };
+    assert_eq!(rt;
+        parts.action,
+        Action::Protect {
+            ipsec: Ipsec::Ah,
+            mode
+        }
+    );
+    assert_eq!(rt; parts.way, Way::Both);
+    let local = [
+        AddressItem::Range {
+            first: Address::Four(0x0a01_0000),
+            last: Address::Four(0x0a01_ffff),
+        },
+        AddressItem::Range {
+            first: Address::Six(0x2001_0db8 << 96),
+            last: Address::Six((0x2001_0db9 << 96) - 1),
+        },
+    ];
+    assert_eq!(rt; parts.local.as_slice(), local.as_slice());
+    let remote = [AddressItem::Range {
+        first: Address::Four(0x0a02_0001),
+        last: Address::Four(0x0a02_0009),
+    }];
+    assert_eq!(rt; parts.remote.as_slice(), remote.as_slice());
+    assert_eq!(rt; parts.protocol, ProtocolItem::Number(6));
+    let local_port = [
+        PortItem::Number {
+            first: 1024,
+            last: 65535,
+        },
+        PortItem::Number {
+            first: 22,
+            last: 22,
+        },
+    ];
+    assert_eq!(rt; parts.local_port.as_slice(), local_port.as_slice());
+    let remote_port = [PortItem::Number {
+        first: 443,
+        last: 443,
+    }];
+    assert_eq!(rt; parts.remote_port.as_slice(), remote_port.as_slice());
+    let pfp = Pfp {
+        local: false,
+        remote: true,
+        protocol: false,
+        local_port: true,
+        remote_port: false,
+    };
+    assert_eq!(rt; parts.pfp, pfp);
+    Ok(())
+}
+
+#[test]
+fn keys_that_are_left_out_say_any(rt: HostRuntime) -> Result<(), Fail> {
+    let line = read_line(rt.alloc(), b"{ action = 'discard', name = '_' }")?;
+    let parts = line.parts();
+    assert_eq!(rt; parts.action, Action::Discard);
+    assert_eq!(rt; parts.way, Way::Both);
+    assert_eq!(rt; parts.local.as_slice(), [AddressItem::Any].as_slice());
+    assert_eq!(rt; parts.remote.as_slice(), [AddressItem::Any].as_slice());
+    assert_eq!(rt; parts.protocol, ProtocolItem::Any);
+    assert_eq!(rt; parts.local_port.as_slice(), [PortItem::Any].as_slice());
+    assert_eq!(rt; parts.remote_port.as_slice(), [PortItem::Any].as_slice());
+    assert_eq!(rt; parts.pfp, crate::flags::NO_FLAGS);
+    Ok(())
+}
+
+// A policy of so many lines.
+fn policy_of(alloc: Global, count: usize) -> Result<String, AllocError> {
+    let mut text = String::from_str(alloc, "format = 1\n")?;
+    for number in 0..count {
+        let line = format!(in alloc; "[[line]]\nname = 'g{number}'\naction = 'bypass'\n")?;
+        text.push_str(line.as_str())?;
+    }
+    Ok(text)
+}
+
+#[test]
+fn a_policy_has_at_most_4096_lines(rt: HostRuntime) -> Result<(), Fail> {
+    let text = policy_of(rt.alloc(), 4096)?;
+    assert_eq!(rt; read_policy(rt.alloc(), text.as_bytes())?.len(), 4096);
+    let text = format!(in rt.alloc(); "{text}[[line]]\n")?;
+    assert_eq!(rt;
+        read_policy(rt.alloc(), text.as_bytes()).err(),
+        Some(PolicyFault::TooManyLines)
+    );
+    Ok(())
+}
+
+#[test]
+fn faults_are_printed(rt: HostRuntime) -> Result<(), Fail> {
+    for (fault, text) in [
+        (Some(PolicyFault::Syntax), "syntax"),
+        (top(TopKey::Format, Why::Missing), "top format missing"),
+        (top(TopKey::Line, Why::WrongKind), "top line wrong kind"),
+        (
+            top(TopKey::Unknown, Why::NotHere),
+            "top unknown key not here",
+        ),
+        (Some(PolicyFault::TooManyLines), "too many lines"),
+        (
+            line(1, LineKey::Whole, Why::WrongKind),
+            "line 1 table wrong kind",
+        ),
+        (
+            line(2, LineKey::Unknown, Why::NotHere),
+            "line 2 unknown key not here",
+        ),
+        (
+            line(3, LineKey::Name, Why::Reserved),
+            "line 3 name reserved",
+        ),
+        (
+            line(4, LineKey::Action, Why::NotInGrammar),
+            "line 4 action not in grammar",
+        ),
+        (
+            line(5, LineKey::Direction, Why::WrongKind),
+            "line 5 direction wrong kind",
+        ),
+        (line(6, LineKey::Local, Why::Empty), "line 6 local empty"),
+        (
+            line(7, LineKey::Remote, Why::OutOfRange),
+            "line 7 remote out of range",
+        ),
+        (
+            line(8, LineKey::Protocol, Why::OutOfRange),
+            "line 8 protocol out of range",
+        ),
+        (
+            line(9, LineKey::LocalPort, Why::Empty),
+            "line 9 local_port empty",
+        ),
+        (
+            line(10, LineKey::RemotePort, Why::Empty),
+            "line 10 remote_port empty",
+        ),
+        (line(11, LineKey::Pfp, Why::NotHere), "line 11 pfp not here"),
+        (
+            line(12, LineKey::Ipsec, Why::Missing),
+            "line 12 ipsec missing",
+        ),
+        (
+            line(13, LineKey::Mode, Why::Missing),
+            "line 13 mode missing",
+        ),
+        (
+            line(14, LineKey::GateLocal, Why::Missing),
+            "line 14 gate_local missing",
+        ),
+        (
+            line(4096, LineKey::GateRemote, Why::NotHere),
+            "line 4096 gate_remote not here",
+        ),
+        (rule(1, LineFault::ProtectOneWay), "line 1 protect one way"),
+        (
+            Some(PolicyFault::DuplicateName { index: 2 }),
+            "line 2 duplicate name",
+        ),
+        (Some(PolicyFault::NoMemory), "out of memory"),
+    ] {
+        let fault = fault.ok_or("a fault")?;
+        let printed = format!(in rt.alloc(); "{fault}")?;
+        assert_eq!(rt; printed.as_str(), text);
+    }
+    Ok(())
+}
