@@ -1,0 +1,4 @@
+pub mod Edits
+pub mod Fault
+pub mod Kept
+pub mod Names

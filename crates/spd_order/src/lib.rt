@@ -1,0 +1,11 @@
+//! The ordered policy: lines by place and by name, and the edits that keep their order.
+#![tactic(auto)]
+
+pub use fault::{InsertRefused, OrderFault};
+pub use spd::Spd;
+
+mod fault;
+mod spd;
+mod table;
+#[cfg(test)]
+mod tests;
