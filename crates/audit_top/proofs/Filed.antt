@@ -40,5 +40,6 @@ Ends-load told words place most next before counted counted' (Outcome.TooLong wo
 Ends-load told words place most next before counted counted' Outcome.NoMemory cause = Ends-no_memory (with_file told words place most next) before
 Ends-load told words place most next before counted counted' Outcome.Done cause = absurd cause
 Ends-load told words place most next before counted counted' Outcome.Usage cause = absurd cause
-Ends-load told words place most next before counted counted' Outcome.NotYet cause = absurd cause
+Ends-load told words place most next before counted counted' (Outcome.PolicyFault word fault) cause = absurd cause
+Ends-load told words place most next before counted counted' (Outcome.TraceFault line fault) cause = absurd cause
 Ends-load told words place most next before counted counted' Outcome.WriteFault cause = absurd cause

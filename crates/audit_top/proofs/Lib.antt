@@ -1,5 +1,3 @@
-pub mod Cutting
 pub mod Sent
-pub mod Judged
-pub mod Tables
 pub mod Filed
+pub mod Events

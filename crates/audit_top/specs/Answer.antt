@@ -1,5 +1,6 @@
 -- What a command answers.
-use Rattle.std.specs.Prelude.{ℕ, List, [], ◌∷◌, ◌++◌, length, nat_le, Option, Some, None, if◌then◌else◌}
+use Rattle.std.specs.Prelude.{◌≡◌, ℕ, List, [], ◌∷◌, ◌++◌, length, nat_le, Option, Some, None, if◌then◌else◌}
+use Rattle.pair_io.specs.Gains.{Gains}
 use Rattle.audit_top.specs.declared.outcome.Outcome.{Outcome}
 use Rattle.audit_top.specs.Words.{word_at}
 
@@ -20,6 +21,13 @@ ending outcome = record { outcome = outcome; lines = [] }
 -- One more line before the others.
 abbrev pub with_line : List ℕ → Answer → Answer
 with_line line answer = record { outcome = answer.outcome; lines = line ∷ answer.lines }
+
+-- What was sent, and then the text of what is left, are the whole text; the outcome is still to come.
+pub record IsSent (whole left : Answer) (before now : Option (List ℕ)) : Type 0 where
+  pub outcome : whole.outcome ≡ left.outcome
+  pub sent : List ℕ
+  pub text : text_of whole.lines ≡ sent ++ text_of left.lines
+  pub gained : Gains before now sent
 
 -- A content of at most so many bytes is gone on with; the file of that word is too long where there are more.
 abbrev pub within : ℕ → ℕ → (List ℕ → Option Answer) → Option (List ℕ) → Option Answer

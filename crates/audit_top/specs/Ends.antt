@@ -19,7 +19,8 @@ EndsBy answer before now Outcome.WriteFault = GainsPrefix before now (text_of an
 EndsBy answer before now (Outcome.ReadFault word) = (n : ℕ) × Gains before now (text_of (take n answer.lines))
 EndsBy answer before now Outcome.Done = IsAnswer answer before now Outcome.Done
 EndsBy answer before now Outcome.Usage = IsAnswer answer before now Outcome.Usage
-EndsBy answer before now Outcome.NotYet = IsAnswer answer before now Outcome.NotYet
+EndsBy answer before now (Outcome.PolicyFault word fault) = IsAnswer answer before now (Outcome.PolicyFault word fault)
+EndsBy answer before now (Outcome.TraceFault line fault) = IsAnswer answer before now (Outcome.TraceFault line fault)
 EndsBy answer before now (Outcome.TooLong word) = IsAnswer answer before now (Outcome.TooLong word)
 
 -- The same where there is an answer: where each file that it needs tells its content.
@@ -51,7 +52,8 @@ Causes form limits words before now (Outcome.TooLong word) =
 Causes form limits words before now Outcome.WriteFault = Rose before.written now.written
 Causes form limits words before now Outcome.Usage = form ≡ false
 Causes form limits words before now Outcome.Done = Unit {0}
-Causes form limits words before now Outcome.NotYet = Unit {0}
+Causes form limits words before now (Outcome.PolicyFault word fault) = Unit {0}
+Causes form limits words before now (Outcome.TraceFault line fault) = Unit {0}
 Causes form limits words before now Outcome.NoMemory = Unit {0}
 
 -- These refusals leave the text as it was.
@@ -60,6 +62,7 @@ Leaves before now Outcome.Usage = now ≡ before
 Leaves before now (Outcome.ReadFault word) = now ≡ before
 Leaves before now (Outcome.TooLong word) = now ≡ before
 Leaves before now Outcome.Done = Unit {0}
-Leaves before now Outcome.NotYet = Unit {0}
+Leaves before now (Outcome.PolicyFault word fault) = now ≡ before
+Leaves before now (Outcome.TraceFault line fault) = Unit {0}
 Leaves before now Outcome.WriteFault = Unit {0}
 Leaves before now Outcome.NoMemory = Unit {0}

@@ -1,16 +1,30 @@
 -- The line that tells a refusal.
 use Rattle.std.specs.Prelude.{ℕ, List, ◌++◌, Option, Some, None, codes, decimal}
+use Rattle.spd_file.specs.Fault.{policy_fault_text}
+use Rattle.trace_text.specs.Fault.{event_fault_text}
 use Rattle.audit_top.specs.declared.outcome.Outcome.{Outcome}
+use Rattle.audit_top.specs.declared.outcome.TraceFault.{TraceFault}
 
 -- A refusal of the file that a word names.
 abbrev pub word_line : ℕ → List ℕ → List ℕ
 word_line word cause = codes "error: word " ++ (decimal word ++ cause)
 
+-- What is printed of a trace line's fault.
+abbrev pub trace_fault_text : TraceFault → List ℕ
+trace_fault_text (TraceFault.Text fault) = event_fault_text fault
+trace_fault_text TraceFault.OnlyPackets = codes "only packets"
+
+-- A refusal of a trace line.
+abbrev pub trace_line : ℕ → List ℕ → List ℕ
+trace_line line cause = codes "error: trace line " ++ (decimal line ++ (codes ": " ++ (cause ++ codes "\n")))
+
 -- The line of an outcome, with its end; none where the run came to an answer.
 abbrev pub error_line : Outcome → Option (List ℕ)
 error_line Outcome.Done = None
 error_line Outcome.Usage = Some (codes "error: usage\n")
-error_line Outcome.NotYet = Some (codes "error: not yet\n")
+error_line (Outcome.PolicyFault word fault) = Some (word_line word (codes ": policy: " ++ (policy_fault_text fault ++ codes "\n")))
+error_line (Outcome.TraceFault line fault) =
+    Some (trace_line line (trace_fault_text fault))
 error_line (Outcome.TooLong word) = Some (word_line word (codes ": too long\n"))
 error_line (Outcome.ReadFault word) = Some (word_line word (codes ": cannot read\n"))
 error_line Outcome.WriteFault = Some (codes "error: cannot write\n")

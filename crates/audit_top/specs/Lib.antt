@@ -4,10 +4,6 @@ pub mod ErrorLine
 pub mod Judge
 pub mod Loading
 pub mod Outcome
-pub mod Pieces
-pub mod Policy
-pub mod Refused
 pub mod Run
-pub mod Trace
 pub mod VerdictLine
 pub mod Words

@@ -14,5 +14,6 @@ LoadCauses place most name content before now (Outcome.TooLong word) =
 LoadCauses place most name content before now Outcome.NoMemory = Unit {0}
 LoadCauses place most name content before now Outcome.Done = ⊥
 LoadCauses place most name content before now Outcome.Usage = ⊥
-LoadCauses place most name content before now Outcome.NotYet = ⊥
+LoadCauses place most name content before now (Outcome.PolicyFault word fault) = ⊥
+LoadCauses place most name content before now (Outcome.TraceFault line fault) = ⊥
 LoadCauses place most name content before now Outcome.WriteFault = ⊥

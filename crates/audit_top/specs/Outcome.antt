@@ -6,8 +6,9 @@ use Rattle.audit_top.specs.declared.outcome.Outcome.{Outcome}
 abbrev pub status_of : Outcome → ℕ
 status_of Outcome.Done = 0
 status_of Outcome.Usage = 2
+status_of (Outcome.PolicyFault word fault) = 3
+status_of (Outcome.TraceFault line fault) = 4
 status_of (Outcome.TooLong word) = 4
 status_of (Outcome.ReadFault word) = 6
 status_of Outcome.WriteFault = 7
 status_of Outcome.NoMemory = 8
-status_of Outcome.NotYet = 9

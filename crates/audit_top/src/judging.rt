@@ -1,18 +1,21 @@
-ghost use Rattle.std.specs.Prelude.{◌≡◌, ◌≤◌, length, IsTrue, OnOk, OnErr, IfErr};
+ghost use Rattle.std.specs.Prelude.{◌≡◌, ◌+◌, ◌<◌, ◌≤◌, drop, length, option_map, IsTrue, Ok, OnOk, OnErr, IfOk, IfErr};
 ghost use Rattle.pair_io.specs.Gains.{Gains, GainsPrefix};
+ghost use Rattle.audit_top.specs.Answer.{Answer, IsSent};
 ghost use Rattle.audit_top.specs.Ends.{counts, Causes, Ends, EndsBy, Leaves};
-ghost use Rattle.audit_top.specs.Judge.{event_line, is_judge, judge_answer, judge_limits, merged, trace_answer, TraceCauses, WriteCauses};
-ghost use Rattle.audit_top.specs.Pieces.{lines_of};
+ghost use Rattle.audit_top.specs.Judge.{by_event, is_judge, judge_answer, judge_limits, merged, packet_line, trace_answer, PolicyCauses, TraceCauses, WriteCauses};
+ghost use Rattle.spd_file.specs.Policy.{policy_meaning};
+ghost use Rattle.trace_text.specs.Event.{event_now};
+ghost use Rattle.trace_text.specs.Trace.{events_of};
 
-use crate::Outcome;
 use crate::files::load_word;
-use crate::pieces::first_line;
-use crate::policy::read_policy;
-use crate::trace::{Event, read_event};
 use crate::verdict_line::append_verdict;
+use crate::{Outcome, TraceFault};
 use pair_io::{Files, Sink, WordList, write_all};
+use sel_box::{Direction, Packet};
+use spd_file::{PolicyFault, read_policy};
 use spd_line::LineList;
 use std::alloc::Global;
+use trace_text::{Event, next_event};
 
 // The most bytes of a policy file.
 const MOST_POLICY: u64 = 1_048_576;
@@ -66,13 +69,25 @@ fn judge_files<F: Files, O: Sink>(
     ensures leaves { Leaves (O.told out.old) (O.told out.new) (merged result) }
 {
     let policy = load_word(alloc, files, words, 2, MOST_POLICY)?;
-    let lines = read_policy(alloc, policy.as_slice())?;
+    let lines = read_lines(alloc, 2, policy.as_slice())?;
     let trace = load_word(alloc, files, words, 3, MOST_TRACE)?;
     judge_trace(alloc, &lines, trace.as_slice(), out)
 }
 
-// Judges each packet of the trace and writes its line, up to the first trace line that isn't in the
-// form that is read so far.
+// The lines of the policy file that the word at a place names.
+fn read_lines(alloc: Global, place: u32, bytes: &[u8]) -> Result<LineList, Outcome>
+    ensures lines { IfOk result (λ lines. policy_meaning bytes.now ≡ Ok lines) }
+    ensures few { IfOk result (λ lines. length lines ≤ 4096) }
+    ensures refused { IfErr result (PolicyCauses place (policy_meaning bytes.now)) }
+{
+    match read_policy(alloc, bytes) {
+        Ok(lines) => Ok(lines),
+        Err(PolicyFault::NoMemory) => Err(Outcome::NoMemory),
+        Err(fault) => Err(Outcome::PolicyFault { word: place, fault }),
+    }
+}
+
+// Judges each packet of the trace and writes its line, up to the first trace line that is refused.
 fn judge_trace<O: Sink>(
     alloc: Global,
     lines: &LineList,
@@ -80,40 +95,95 @@ fn judge_trace<O: Sink>(
     out: &mut O,
 ) -> Result<Outcome, Outcome>
     requires { length lines.now ≤ 4096 }
-    ensures ends { EndsBy (trace_answer lines.now 1 (lines_of trace.now)) (O.told out.old) (O.told out.new) (merged result) }
+    ensures ends { EndsBy (trace_answer lines.now 1 (events_of trace.now)) (O.told out.old) (O.told out.new) (merged result) }
     ensures causes { TraceCauses (O.faults out.old) (O.faults out.new) (merged result) }
 {
     let mut text = Vec::new(alloc);
     let mut rest = trace;
     let mut number = 1;
     while !rest.is_empty() {
-        let (line, after) = first_line(rest);
-        let Some(event) = read_event(line) else {
-            return Ok(Outcome::NotYet);
-        };
-        write_verdict(lines, number, &event, &mut text, out)?;
-        rest = after;
+        let taken = judge_line(lines, number, rest, &mut text, out)?;
+        rest = &rest[taken..];
         number += 1;
     }
     Ok(Outcome::Done)
+}
+
+// Judges what the first line of a trace asks for, and says how many bytes that line has.
+fn judge_line<O: Sink>(
+    lines: &LineList,
+    number: u64,
+    trace: &[u8],
+    text: &mut Vec<u8>,
+    out: &mut O,
+) -> Result<usize, Outcome>
+    requires few { length lines.now ≤ 4096 }
+    requires some { 0 < length trace.now }
+    ensures sent { IfOk result (λ taken. IsSent (trace_answer lines.now number (events_of trace.now))
+        (trace_answer lines.now (number + 1) (events_of (drop taken trace.now))) (O.told out.old) (O.told out.new)) }
+    ensures taken { IfOk result (λ taken. (0 < taken) × (taken ≤ length trace.now)) }
+    ensures ends { IfErr result (EndsBy (trace_answer lines.now number (events_of trace.now)) (O.told out.old) (O.told out.new)) }
+    ensures causes { IfErr result (TraceCauses (O.faults out.old) (O.faults out.new)) }
+    ensures faults { O.faults out.old ≤ O.faults out.new }
+{
+    match next_event(trace) {
+        Ok(found) => {
+            judge_event(lines, number, &found.event, text, out)?;
+            Ok(found.taken)
+        }
+        Err(fault) => Err(Outcome::TraceFault {
+            line: number,
+            fault: TraceFault::Text(fault),
+        }),
+    }
+}
+
+// Judges a packet and writes its line; a trace line that asks for nothing is passed over, and another
+// event is refused.
+fn judge_event<O: Sink>(
+    lines: &LineList,
+    number: u64,
+    event: &Option<Event>,
+    text: &mut Vec<u8>,
+    out: &mut O,
+) -> Result<(), Outcome>
+    requires { length lines.now ≤ 4096 }
+    ensures sent { OnOk result ((others : Answer)
+        → IsSent (by_event lines.now number (option_map event_now event.now) others) others (O.told out.old) (O.told out.new)) }
+    ensures ends { IfErr result (λ outcome. (others : Answer)
+        → EndsBy (by_event lines.now number (option_map event_now event.now) others) (O.told out.old) (O.told out.new) outcome) }
+    ensures causes { IfErr result (TraceCauses (O.faults out.old) (O.faults out.new)) }
+    ensures faults { O.faults out.old ≤ O.faults out.new }
+{
+    match event {
+        None => Ok(()),
+        Some(Event::Pkt { direction, packet }) => {
+            write_verdict(lines, number, *direction, packet, text, out)
+        }
+        Some(_) => Err(Outcome::TraceFault {
+            line: number,
+            fault: TraceFault::OnlyPackets,
+        }),
+    }
 }
 
 // Writes the line of one packet, whose text it makes in the given buffer.
 fn write_verdict<O: Sink>(
     lines: &LineList,
     number: u64,
-    event: &Event,
+    direction: Direction,
+    packet: &Packet,
     text: &mut Vec<u8>,
     out: &mut O,
 ) -> Result<(), Outcome>
     requires { length lines.now ≤ 4096 }
-    ensures written { OnOk result (Gains (O.told out.old) (O.told out.new) (event_line lines.now number event.now)) }
-    ensures prefix { OnErr result (GainsPrefix (O.told out.old) (O.told out.new) (event_line lines.now number event.now)) }
+    ensures written { OnOk result (Gains (O.told out.old) (O.told out.new) (packet_line lines.now number direction packet.now)) }
+    ensures prefix { OnErr result (GainsPrefix (O.told out.old) (O.told out.new) (packet_line lines.now number direction packet.now)) }
     ensures causes { IfErr result (WriteCauses (O.faults out.old) (O.faults out.new)) }
     ensures faults { O.faults out.old ≤ O.faults out.new }
 {
-    let point = sel_box::view(event.direction, &event.packet);
-    let verdict = spd_line::judge(lines, event.direction, &point);
+    let point = sel_box::view(direction, packet);
+    let verdict = spd_line::judge(lines, direction, &point);
     let name = spd_line::name_of(lines, verdict.line);
     text.clear();
     append_verdict(number, &verdict.judgement, &name, text)?;

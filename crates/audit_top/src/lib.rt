@@ -2,17 +2,14 @@
 //! it writes and the outcome that it ends with.
 #![tactic(auto)]
 
-pub use outcome::{Outcome, status};
+pub use outcome::{Outcome, TraceFault, status};
 pub use running::{report, run};
 
 mod error_line;
 mod files;
 mod judging;
 mod outcome;
-mod pieces;
-mod policy;
 mod running;
 #[cfg(test)]
 mod tests;
-mod trace;
 mod verdict_line;

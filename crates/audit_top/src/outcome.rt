@@ -2,6 +2,17 @@ ghost use Rattle.std.specs.Prelude.{◌≡◌};
 ghost use Rattle.audit_top.specs.Outcome.{status_of};
 
 use pair_io::{Failed, NoMemory};
+use spd_file::PolicyFault;
+use trace_text::EventFault;
+
+/// Why a trace line is refused.
+#[derive(Clone, Copy, Debug, PartialEq, Eq)]
+pub enum TraceFault {
+    /// Its text is.
+    Text(EventFault),
+    /// It is another event than a packet, which `judge` doesn't take.
+    OnlyPackets,
+}
 
 /// How a run ended. Words are counted from 1, the command being the first.
 #[derive(Clone, Copy, Debug, PartialEq, Eq)]
@@ -10,8 +21,10 @@ pub enum Outcome {
     Done,
     /// The words are those of no command.
     Usage,
-    /// A file is in a form that isn't read yet.
-    NotYet,
+    /// The policy file that the word names is refused.
+    PolicyFault { word: u32, fault: PolicyFault },
+    /// A line of the trace, counted from 1, is refused.
+    TraceFault { line: u64, fault: TraceFault },
     /// The file that the word names has more bytes than it may.
     TooLong { word: u32 },
     /// The file that the word names couldn't be read.
@@ -51,10 +64,11 @@ pub fn status(outcome: &Outcome) -> u8
     match outcome {
         Outcome::Done => 0,
         Outcome::Usage => 2,
+        Outcome::PolicyFault { .. } => 3,
+        Outcome::TraceFault { .. } => 4,
         Outcome::TooLong { .. } => 4,
         Outcome::ReadFault { .. } => 6,
         Outcome::WriteFault => 7,
         Outcome::NoMemory => 8,
-        Outcome::NotYet => 9,
     }
 }

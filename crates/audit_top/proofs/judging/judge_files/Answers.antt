@@ -1,8 +1,8 @@
-use Rattle.std.proofs.Common.{◌≡◌, Some}
+use Rattle.std.proofs.Common.{◌≡◌, Ok}
 use Rattle.std.proofs.lemmas.Result.{err_from_is_err_and}
 use Rattle.audit_top.specs.Ends.{counts}
 use Rattle.audit_top.specs.Judge.{by_policy, by_trace, most_policy, most_trace}
-use Rattle.audit_top.specs.Policy.{policy_of}
+use Rattle.spd_file.specs.Policy.{policy_meaning}
 use Rattle.audit_top.proofs.Filed.{Ends-file, Ends-load}
 use Rattle.audit_top.proofs.judging.judge_files.Goals as goal
 
@@ -11,7 +11,7 @@ returns-in_err-trace-clause-ends g c =
     let p = err_from_is_err_and c.from_residual-in_err-trace.result c.from_residual-in_err-trace.ensures.1 in
     let told = g.F.Files.told c.args.files.now in
     let words = c.args.words.now in
-    let lines : policy_of c.in_ok-policy.policy ≡ Some c.in_ok-lines.lines = rw c.as_slice.ensures at c.in_ok-lines.ensures.lines in
+    let lines : policy_meaning c.in_ok-policy.policy ≡ Ok c.in_ok-lines.lines = rw c.as_slice.ensures at c.in_ok-lines.ensures.lines in
     let refused = rw c.load_word.ensures.told at c.in_err-trace.ensures.refused in
     rw (p.1, p.2)
     (Ends-file told words 2 most_policy c.in_ok-policy.policy (by_policy told words) _ _ _ c.in_ok-policy.ensures.content c.in_ok-policy.ensures.within
@@ -24,7 +24,7 @@ pub returns-clause-ends : goal.returns-clause-ends
 returns-clause-ends g c =
     let told = g.F.Files.told c.args.files.now in
     let words = c.args.words.now in
-    let lines : policy_of c.in_ok-policy.policy ≡ Some c.in_ok-lines.lines = rw c.as_slice.ensures at c.in_ok-lines.ensures.lines in
+    let lines : policy_meaning c.in_ok-policy.policy ≡ Ok c.in_ok-lines.lines = rw c.as_slice.ensures at c.in_ok-lines.ensures.lines in
     let content = rw c.load_word.ensures.told at c.in_ok-trace.ensures.content in
     let ends = rw c.as_slice-2.ensures at c.judge_trace.ensures.ends in
     Ends-file told words 2 most_policy c.in_ok-policy.policy (by_policy told words) _ _ _ c.in_ok-policy.ensures.content c.in_ok-policy.ensures.within

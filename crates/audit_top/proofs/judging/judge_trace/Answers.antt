@@ -1,26 +1,31 @@
-use Rattle.std.proofs.Common.{◌+◌, sym, arith}
+use Rattle.std.proofs.Common.{ℕ, ◌+◌, ◌-◌, ◌<◌, ◌≤◌, drop, length, arith}
+use Rattle.std.proofs.lemmas.List.{length-drop}
 use Rattle.std.proofs.lemmas.Result.{err_from_is_err_and}
-use Rattle.audit_top.specs.Judge.{event_line, trace_answer}
-use Rattle.audit_top.specs.Pieces.{lines_of}
-use Rattle.audit_top.proofs.Judged.{trace_answer-event, EndsBy-write}
-use Rattle.audit_top.proofs.Sent.{IsSent-line, IsSent-front}
+use Rattle.trace_text.specs.Trace.{events_of}
+use Rattle.audit_top.specs.Judge.{trace_answer}
+use Rattle.audit_top.proofs.Events.{TraceCauses-no_read, all_left}
+use Rattle.audit_top.proofs.Sent.{IsSent-ends, IsSent-then}
 use Rattle.audit_top.proofs.judging.judge_trace.Goals as goal
 
-pub returns-in_err-write_verdict-clause-ends : goal.returns-in_err-write_verdict-clause-ends
-returns-in_err-write_verdict-clause-ends g c =
+pub returns-in_err-taken-clause-ends : goal.returns-in_err-taken-clause-ends
+returns-in_err-taken-clause-ends g c =
     let p = err_from_is_err_and c.from_residual.result c.from_residual.ensures.1 in
-    let line = trace_answer-event c.args.lines.now c.loop-rest.number c.loop-rest.rest.now c.first_line.result.0.now c.first_line.result.1.now c.in-Some.event c.first_line.ensures.lines (sym c.in-Some.ensures) in
     rw (p.1, p.2)
-    (EndsBy-write _ _ _ _ _ _ c.in_err-write_verdict.ensures.causes
-    (IsSent-front (trace_answer c.args.lines.now 1 (lines_of c.args.trace.now)) (trace_answer c.args.lines.now (c.loop-rest.number + 1) (lines_of c.first_line.result.1.now)) (event_line c.args.lines.now c.loop-rest.number c.in-Some.event) _ _ _ (rw line at c.loop-rest.invariant.progress.sent) c.in_err-write_verdict.ensures.prefix))
+    (IsSent-ends _ _ _ _ _ _ c.loop-rest.invariant.progress.sent
+    (TraceCauses-no_read _ _ _ c.in_err-taken.ensures.causes) c.in_err-taken.ensures.ends)
+
+-- A line less is left, and one more is counted.
+less_left : (number left taken all : ℕ) → 0 < taken → taken ≤ left → number + left ≤ all + 1 → number + 1 + (left - taken) ≤ all + 1
+less_left number left taken all some within counted = omega arith
 
 pub loop-rest-preserved : goal.loop-rest-preserved
 loop-rest-preserved g c =
-    let line = trace_answer-event c.args.lines.now c.loop-rest.number c.loop-rest.rest.now c.first_line.result.0.now c.first_line.result.1.now c.in-Some.event c.first_line.ensures.lines (sym c.in-Some.ensures) in
+    let left = all_left c.loop-rest.rest.now c.in_ok-taken.taken in
+    let taken = c.in_ok-taken.ensures.taken in
     record {
       progress = record {
-        sent = IsSent-line (trace_answer c.args.lines.now 1 (lines_of c.args.trace.now)) (trace_answer c.args.lines.now (c.loop-rest.number + 1) (lines_of c.first_line.result.1.now)) (event_line c.args.lines.now c.loop-rest.number c.in-Some.event) _ _ _ (rw line at c.loop-rest.invariant.progress.sent) c.in_ok-write_verdict.ensures.written;
-        counted = omega arith;
+        sent = rw left (IsSent-then _ _ _ _ _ _ c.loop-rest.invariant.progress.sent c.in_ok-taken.ensures.sent);
+        counted = rw (left, length-drop) (less_left _ _ _ _ taken.0 taken.1 c.loop-rest.invariant.progress.counted);
       };
       faults = omega arith;
     }

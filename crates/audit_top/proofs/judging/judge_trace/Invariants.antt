@@ -1,13 +1,13 @@
 use Rattle.std.proofs.Common.{ℕ, List, Option, ◌+◌, ◌≤◌, length}
 use Rattle.spd_line.specs.declared.line.LineParts.{LineParts}
 use Rattle.audit_top.specs.Judge.{trace_answer}
-use Rattle.audit_top.specs.Pieces.{lines_of}
-use Rattle.audit_top.proofs.Sent.{IsSent}
+use Rattle.trace_text.specs.Trace.{events_of}
+use Rattle.audit_top.specs.Answer.{IsSent}
 use Rattle.audit_top.proofs.judging.judge_trace.Given as goal
 
 -- The lines before the rest were judged and written, and counted by the number.
 pub record Progress (lines : List LineParts) (trace rest : List ℕ) (number : ℕ) (before now : Option (List ℕ)) : Type 0 where
-  pub sent : IsSent (trace_answer lines 1 (lines_of trace)) (trace_answer lines number (lines_of rest)) before now
+  pub sent : IsSent (trace_answer lines 1 (events_of trace)) (trace_answer lines number (events_of rest)) before now
   pub counted : number + length rest ≤ length trace + 1
 
 abbrev pub invariant-loop-rest : goal.invariant-loop-rest
