@@ -14,6 +14,8 @@ mod items;
 mod key;
 mod line;
 mod line_table;
+#[cfg(test)]
+mod line_tests;
 mod policy;
 mod table;
 #[cfg(test)]
