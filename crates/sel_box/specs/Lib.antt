@@ -1,3 +1,13 @@
 pub mod Class
+pub mod Classes
 pub mod Packet
 pub mod Point
+pub mod Boxes
+pub mod Bounds
+pub mod BoxRegion
+pub mod BoxLaws
+pub mod Swap
+pub mod SomePoint
+pub mod LeastPacket
+pub mod Shown
+pub mod ByAxes

@@ -1,5 +1,5 @@
 -- What a policy sees of a packet in one direction (RFC 4301 section 4.4.1).
-use Rattle.std.specs.Prelude.{◌≡◌, ℕ, Bool, ◌&&◌, nat_le, IsTrue}
+use Rattle.std.specs.Prelude.{◌≡◌, ℕ, Bool, ◌&&◌, ◌||◌, nat_le, IsTrue}
 use Rattle.sel_box.specs.declared.packet.Direction.{Direction}
 use Rattle.sel_box.specs.declared.packet.Direction.TheVariants.{Outbound, Inbound}
 use Rattle.sel_box.specs.declared.packet.Family.{Family}
@@ -43,3 +43,26 @@ view_of Inbound p = record {
 -- The point is the view of some packet in some direction.
 abbrev pub IsReal : PointFields → Type 0
 IsReal x = (d : Direction) × ((p : PacketFields) × (IsTrue (is_packet p) × (view_of d p ≡ x)))
+
+-- The packet whose view in the direction has these values.
+abbrev pub packet_at : Direction → PointFields → PacketFields
+packet_at Outbound x = record {
+  family = x.family;
+  source = x.local;
+  destination = x.remote;
+  protocol = x.protocol;
+  source_field = x.local_field;
+  destination_field = x.remote_field;
+}
+packet_at Inbound x = record {
+  family = x.family;
+  source = x.remote;
+  destination = x.local;
+  protocol = x.protocol;
+  source_field = x.remote_field;
+  destination_field = x.local_field;
+}
+
+-- The same as a test: some packet shows these values, outbound or inbound.
+abbrev pub real_point : PointFields → Bool
+real_point x = is_packet (packet_at Outbound x) || is_packet (packet_at Inbound x)

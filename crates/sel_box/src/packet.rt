@@ -1,7 +1,7 @@
 ghost use Rattle.std.specs.Prelude.{◌≡◌, Some, None, if◌then◌else◌};
 ghost use Rattle.sel_box.specs.Packet.{PacketFields, is_packet, protocol_fits, last_address};
 
-use crate::class;
+use crate::{class, class_table};
 use std::marker::Model;
 
 /// The two versions of IP.
@@ -33,7 +33,8 @@ pub enum Direction {
 
 /// What a packet shows to a policy (RFC 4301 section 4.4.1.1). The protocol is 0 to 255, or 256 for
 /// OPAQUE; a field is a port, a type and code, or a Mobility Header type, or 65536 for OPAQUE.
-#[derive(Clone, Copy, Debug, PartialEq, Eq)]
+/// Packets are in order of family, source, destination, protocol, source field and destination field.
+#[derive(Clone, Copy, Debug, PartialEq, Eq, PartialOrd, Ord)]
 pub struct Packet {
     family: Family,
     source: u128,
@@ -95,7 +96,7 @@ impl Packet {
         if source <= last
             && destination <= last
             && allows_protocol(family, protocol)
-            && class::allows_fields(protocol, source_field, destination_field)
+            && class_table::allows_fields(protocol, source_field, destination_field)
         {
             Some(Packet {
                 family,
@@ -160,7 +161,7 @@ impl Packet {
 }
 
 // Whether a packet of the family can be of the protocol.
-fn allows_protocol(family: Family, protocol: u16) -> bool
+pub(crate) fn allows_protocol(family: Family, protocol: u16) -> bool
     ensures { result ≡ protocol_fits family protocol }
 {
     match family {

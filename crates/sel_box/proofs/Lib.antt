@@ -1,0 +1,7 @@
+pub mod Framed
+pub mod BoxAxes
+pub mod ClassRows
+pub mod FieldsShown
+pub mod LeastShown
+pub mod BoxPackets
+pub mod PacketOrder
