@@ -1,8 +1,14 @@
 pub mod Families
 pub mod Fault
+pub mod FinalLaws
 pub mod First
 pub mod Judged
+pub mod LineBoxCount
+pub mod LineBoxJudged
+pub mod LineBoxLaws
+pub mod LineBoxes
 pub mod Pinned
 pub mod Ports
+pub mod ProductLaws
 pub mod Selects
 pub mod Width

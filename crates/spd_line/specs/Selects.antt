@@ -1,5 +1,5 @@
 -- Which points a line selects (RFC 4301 section 4.4.1.1).
-use Rattle.std.specs.Prelude.{ℕ, Bool, true, false, ◌==◌, ◌&&◌, nat_le}
+use Rattle.std.specs.Prelude.{ℕ, Bool, true, false, ◌==◌, ◌&&◌, nat_le, nat_lt}
 use Rattle.std.specs.List.{list_any}
 use Rattle.sel_box.specs.declared.packet.Direction.{Direction}
 use Rattle.sel_box.specs.declared.packet.Direction.TheVariants.{Outbound, Inbound}
@@ -39,12 +39,12 @@ protocol_has ProtocolItem.Any _ = true
 protocol_has ProtocolItem.Opaque p = p == opaque_protocol
 protocol_has (ProtocolItem.Number n) p = p == n
 
--- The port item has the field: ANY has each and OPAQUE too, a range has its numbers alone.
+-- The port item has the field: ANY has each and OPAQUE too, a range its numbers alone, never OPAQUE.
 abbrev pub port_has : ℕ → PortItem → Bool
 port_has _ PortItem.Any = true
 port_has f PortItem.Opaque = f == opaque_field
-port_has f (PortItem.Number first last) = lies_in first last f
-port_has f (PortItem.TypeCode first last) = lies_in first last f
+port_has f (PortItem.Number first last) = lies_in first last f && nat_lt f opaque_field
+port_has f (PortItem.TypeCode first last) = lies_in first last f && nat_lt f opaque_field
 
 -- The line has the direction, and each of its five selectors has the point's value.
 abbrev pub selects : Direction → PointFields → LineParts → Bool

@@ -5,6 +5,7 @@ pub use action::{Action, Ipsec, Mode};
 pub use fault::LineFault;
 pub use judgement::{Answer, Carriage, Judgement, Verdict};
 pub use line::{Line, LineParts, LineRefused, Pfp, ProtocolItem, Way};
+pub use line_boxes::{BoxList, LineBox, boxes, final_boxes};
 pub use lines::{LineList, Lines};
 pub use lists::NoMemory;
 pub use pin::Pins;
@@ -20,15 +21,20 @@ pub type AddressList = lists::List<AddressItem>;
 pub type PortList = lists::List<PortItem>;
 
 mod action;
+#[cfg(test)]
+mod box_tests;
 mod families;
 mod fault;
 mod judgement;
 pub mod laws;
 mod line;
+mod line_boxes;
 mod lines;
 mod pin;
 mod pinning;
 mod ports;
+mod product_list;
+mod ranges;
 mod select;
 #[cfg(test)]
 mod tests;

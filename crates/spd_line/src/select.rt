@@ -21,7 +21,7 @@ pub fn matches(line: &Line, direction: Direction, point: &Point) -> bool
 }
 
 // Whether a line of that way is looked at in the direction.
-fn has_direction(way: Way, direction: Direction) -> bool
+pub fn has_direction(way: Way, direction: Direction) -> bool
     ensures { result ≡ goes way direction }
 {
     match (way, direction) {

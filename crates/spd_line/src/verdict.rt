@@ -55,7 +55,7 @@ fn final_name() -> Name
 }
 
 // The line's judgement of a point that it selects.
-fn judge_by(line: &Line, direction: Direction, point: &Point) -> Judgement
+pub fn judge_by(line: &Line, direction: Direction, point: &Point) -> Judgement
     ensures { result ≡ judged direction point.now line.now }
 {
     let parts = line.parts();
