@@ -1,0 +1,33 @@
+-- How far the cutting of a policy is, and what it comes to.
+use Rattle.std.specs.Prelude.{◌≡◌, ℕ, List, ◌++◌, length, Option}
+use Rattle.sel_box.specs.declared.any_box.AnyBox.{AnyBox}
+use Rattle.spd_cut.specs.declared.entry.Entry.{Entry}
+use Rattle.spd_cut.specs.declared.fault.CutFault.{CutFault}
+use Rattle.spd_cut.specs.Entries.{entries_after}
+use Rattle.spd_cut.specs.Fault.{IsCutFault}
+use Rattle.spd_cut.specs.Steps.{first_over, steps_after}
+
+-- The regions of the boxes so far, and the entries that they gave.
+pub record Cut : Type 0 where
+  pub earlier : List AnyBox
+  pub entries : List Entry
+
+-- All entries, and the line of the first step behind what is cut so far that passes the limit.
+pub record Outcome : Type 0 where
+  pub entries : List Entry
+  pub over : Option ℕ
+
+-- What comes of it with some boxes more.
+abbrev pub outcome : ℕ → Cut → List Entry → Outcome
+outcome limit cut boxes = record {
+  entries = cut.entries ++ entries_after cut.earlier boxes;
+  over = first_over limit (steps_after cut.earlier (length cut.entries) boxes);
+}
+
+-- These boxes were cut within the limit: whatever comes after them, the outcome is the same.
+abbrev pub Continues : ℕ → Cut → List Entry → Cut → Type 0
+Continues limit before boxes after = (rest : List Entry) → outcome limit after rest ≡ outcome limit before (boxes ++ rest)
+
+-- They weren't, for this fault, whatever comes after them.
+abbrev pub IsRefused : ℕ → Cut → List Entry → CutFault → Type 0
+IsRefused limit before boxes fault = (rest : List Entry) → IsCutFault (outcome limit before (boxes ++ rest)).over fault

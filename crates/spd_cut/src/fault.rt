@@ -1,0 +1,40 @@
+use lists::NoMemory;
+use std::error::Error;
+use std::fmt;
+
+/// Why a policy isn't cut into entries.
+#[derive(Clone, Copy, Debug, PartialEq, Eq)]
+pub enum CutFault {
+    /// There would be more entries and pieces at once than the limit, first while a box of the line
+    /// at this place was cut; the count of the lines plus 1 is `final`.
+    Limit { line: u32 },
+    /// There was no memory.
+    NoMemory,
+}
+
+impl fmt::Display for CutFault {
+    ghost use Rattle.std.specs.Prelude.{Some};
+    ghost use Rattle.spd_cut.specs.Fault.{fault_text};
+
+    ghost output = { λ fault. Some (fault_text fault) };
+
+    fn fmt<W: fmt::Write>(&self, f: &mut fmt::Formatter<W>) -> fmt::Result {
+        f.write_str(match self {
+            CutFault::Limit { .. } => "too many entries",
+            CutFault::NoMemory => "out of memory",
+        })
+    }
+}
+
+impl Error for CutFault {}
+
+impl From<NoMemory> for CutFault {
+    ghost use Rattle.std.specs.Prelude.{◌≡◌};
+    ghost use Rattle.spd_cut.specs.declared.fault.CutFault.{CutFault};
+
+    ghost from_gives = { λ _ fault. fault ≡ CutFault.NoMemory };
+
+    fn from(_: NoMemory) -> CutFault {
+        CutFault::NoMemory
+    }
+}
