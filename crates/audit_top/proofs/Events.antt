@@ -6,19 +6,10 @@ use Rattle.pair_io.specs.Gains.{GainsPrefix}
 use Rattle.audit_top.specs.declared.outcome.Outcome.{Outcome}
 use Rattle.audit_top.specs.Answer.{Answer, text_of, with_line}
 use Rattle.audit_top.specs.Ends.{EndsBy}
-use Rattle.audit_top.specs.Judge.{TraceCauses, WriteCauses}
+use Rattle.audit_top.specs.Judge.{TraceCauses}
+use Rattle.audit_top.specs.Writing.{WriteCauses}
 use Rattle.pair_io.proofs.Gains.{GainsPrefix-first}
-
--- A write that was refused left a front of the line, and so of the text that begins with it.
-pub EndsBy-write : (others : Answer) (line : List ℕ) (before now : Option (List ℕ)) (faults faults' : ℕ) (outcome : Outcome) → WriteCauses faults faults' outcome → GainsPrefix before now line → EndsBy (with_line line others) before now outcome
-EndsBy-write others line before now faults faults' Outcome.WriteFault cause front = GainsPrefix-first (text_of others.lines) front
-EndsBy-write others line before now faults faults' Outcome.NoMemory cause front = GainsPrefix-first (text_of others.lines) front
-EndsBy-write others line before now faults faults' Outcome.Done cause front = absurd cause
-EndsBy-write others line before now faults faults' Outcome.Usage cause front = absurd cause
-EndsBy-write others line before now faults faults' (Outcome.PolicyFault word fault) cause front = absurd cause
-EndsBy-write others line before now faults faults' (Outcome.TraceFault at fault) cause front = absurd cause
-EndsBy-write others line before now faults faults' (Outcome.ReadFault word) cause front = absurd cause
-EndsBy-write others line before now faults faults' (Outcome.TooLong word) cause front = absurd cause
+use Rattle.audit_top.proofs.Unwritten.{EndsBy-unwritten}
 
 -- The causes of a write are causes of judging.
 pub TraceCauses-write : (faults faults' : ℕ) (outcome : Outcome) → WriteCauses faults faults' outcome → TraceCauses faults faults' outcome
@@ -30,6 +21,7 @@ TraceCauses-write faults faults' (Outcome.PolicyFault word fault) cause = absurd
 TraceCauses-write faults faults' (Outcome.TraceFault at fault) cause = absurd cause
 TraceCauses-write faults faults' (Outcome.ReadFault word) cause = absurd cause
 TraceCauses-write faults faults' (Outcome.TooLong word) cause = absurd cause
+TraceCauses-write faults faults' (Outcome.EntryLimit word direction line at) cause = absurd cause
 
 -- Judging a trace reads no file.
 pub TraceCauses-no_read : (faults faults' : ℕ) (outcome : Outcome) → TraceCauses faults faults' outcome → (word : ℕ) → outcome ≢ Outcome.ReadFault word
@@ -38,7 +30,8 @@ TraceCauses-no_read faults faults' outcome cause word same = let P : Outcome →
 -- The same of the answer of a write.
 pub EndsBy-verdict : (r : Result (Unit {0}) Outcome) (line : List ℕ) (before now : Option (List ℕ)) (faults faults' : ℕ) → OnErr r (GainsPrefix before now line) → IfErr r (WriteCauses faults faults') → IfErr r (λ outcome. (others : Answer) → EndsBy (with_line line others) before now outcome)
 EndsBy-verdict (Ok _) line before now faults faults' front cause = tt
-EndsBy-verdict (Err outcome) line before now faults faults' front cause = λ others. EndsBy-write others line before now faults faults' outcome cause front
+EndsBy-verdict (Err outcome) line before now faults faults' front cause =
+    λ others. EndsBy-unwritten (with_line line others) before now faults faults' outcome cause (GainsPrefix-first (text_of others.lines) front)
 
 -- A range that runs to the end is all that is left.
 pub all_left : (text : List ℕ) (k : ℕ) → take (length text - k) (drop k text) ≡ drop k text

@@ -42,4 +42,5 @@ Ends-load told words place most next before counted counted' Outcome.Done cause 
 Ends-load told words place most next before counted counted' Outcome.Usage cause = absurd cause
 Ends-load told words place most next before counted counted' (Outcome.PolicyFault word fault) cause = absurd cause
 Ends-load told words place most next before counted counted' (Outcome.TraceFault line fault) cause = absurd cause
+Ends-load told words place most next before counted counted' (Outcome.EntryLimit word direction line at) cause = absurd cause
 Ends-load told words place most next before counted counted' Outcome.WriteFault cause = absurd cause

@@ -1,3 +1,7 @@
 pub mod Sent
 pub mod Filed
+pub mod Unwritten
 pub mod Events
+pub mod Parts
+pub mod Limits
+pub mod Views

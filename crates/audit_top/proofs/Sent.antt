@@ -48,4 +48,5 @@ IsSent-ends whole left before between now Outcome.Done so_far unread ends = IsSe
 IsSent-ends whole left before between now Outcome.Usage so_far unread ends = IsSent-answer whole left before between now Outcome.Usage so_far ends
 IsSent-ends whole left before between now (Outcome.PolicyFault word fault) so_far unread ends = IsSent-answer whole left before between now (Outcome.PolicyFault word fault) so_far ends
 IsSent-ends whole left before between now (Outcome.TraceFault line fault) so_far unread ends = IsSent-answer whole left before between now (Outcome.TraceFault line fault) so_far ends
+IsSent-ends whole left before between now (Outcome.EntryLimit word direction line at) so_far unread ends = IsSent-answer whole left before between now (Outcome.EntryLimit word direction line at) so_far ends
 IsSent-ends whole left before between now (Outcome.TooLong word) so_far unread ends = IsSent-answer whole left before between now (Outcome.TooLong word) so_far ends

@@ -1,5 +1,5 @@
 -- What is known of a run, whatever its command: the text that it left, and the cause of its outcome.
-use Rattle.std.specs.Prelude.{◌≡◌, ℕ, Bool, false, ◌<◌, List, take, Option, Some, None, IsSome, IsSomeAnd}
+use Rattle.std.specs.Prelude.{◌≡◌, ℕ, Bool, false, ◌<◌, List, take, Option, Some, None, IsSome, IsSomeAnd, Result, Ok, Err}
 use Rattle.pair_io.specs.Counts.{Rose}
 use Rattle.pair_io.specs.Gains.{Gains, GainsPrefix}
 use Rattle.audit_top.specs.declared.outcome.Outcome.{Outcome}
@@ -22,6 +22,7 @@ EndsBy answer before now Outcome.Usage = IsAnswer answer before now Outcome.Usag
 EndsBy answer before now (Outcome.PolicyFault word fault) = IsAnswer answer before now (Outcome.PolicyFault word fault)
 EndsBy answer before now (Outcome.TraceFault line fault) = IsAnswer answer before now (Outcome.TraceFault line fault)
 EndsBy answer before now (Outcome.TooLong word) = IsAnswer answer before now (Outcome.TooLong word)
+EndsBy answer before now (Outcome.EntryLimit word direction line at) = IsAnswer answer before now (Outcome.EntryLimit word direction line at)
 
 -- The same where there is an answer: where each file that it needs tells its content.
 abbrev pub Ends : Option Answer → Option (List ℕ) → Option (List ℕ) → Outcome → Type 0
@@ -54,15 +55,24 @@ Causes form limits words before now Outcome.Usage = form ≡ false
 Causes form limits words before now Outcome.Done = Unit {0}
 Causes form limits words before now (Outcome.PolicyFault word fault) = Unit {0}
 Causes form limits words before now (Outcome.TraceFault line fault) = Unit {0}
+Causes form limits words before now (Outcome.EntryLimit word direction line at) = Unit {0}
 Causes form limits words before now Outcome.NoMemory = Unit {0}
 
--- These refusals leave the text as it was.
+-- These refusals leave the text as it was. A limit that is passed at a trace line comes behind the
+-- lines before it.
 abbrev pub Leaves : Option (List ℕ) → Option (List ℕ) → Outcome → Type 0
 Leaves before now Outcome.Usage = now ≡ before
 Leaves before now (Outcome.ReadFault word) = now ≡ before
 Leaves before now (Outcome.TooLong word) = now ≡ before
 Leaves before now Outcome.Done = Unit {0}
 Leaves before now (Outcome.PolicyFault word fault) = now ≡ before
+Leaves before now (Outcome.EntryLimit word direction line None) = now ≡ before
+Leaves before now (Outcome.EntryLimit word direction line (Some at)) = Unit {0}
 Leaves before now (Outcome.TraceFault line fault) = Unit {0}
 Leaves before now Outcome.WriteFault = Unit {0}
 Leaves before now Outcome.NoMemory = Unit {0}
+
+-- The outcome of a call that refuses by an outcome too.
+abbrev pub merged : Result Outcome Outcome → Outcome
+merged (Ok outcome) = outcome
+merged (Err outcome) = outcome

@@ -1,11 +1,10 @@
 -- What `judge POLICY TRACE` answers.
 use Rattle.std.specs.Str.{bytes_eq}
-use Rattle.std.specs.Prelude.{◌≡◌, ℕ, Bool, false, ◌==◌, ◌&&◌, not, length, codes, if◌then◌else◌, ◌+◌, List, [], ◌∷◌, Option, Some, None, Result, Ok, Err}
+use Rattle.std.specs.Prelude.{ℕ, Bool, false, ◌==◌, ◌&&◌, not, length, codes, if◌then◌else◌, ◌+◌, List, [], ◌∷◌, Option, Some, None, Result, Ok, Err}
 use Rattle.pair_io.specs.Counts.{Rose}
 use Rattle.sel_box.specs.declared.packet.Direction.{Direction}
 use Rattle.sel_box.specs.Packet.{PacketFields}
 use Rattle.sel_box.specs.Point.{view_of}
-use Rattle.spd_file.specs.declared.fault.PolicyFault.{PolicyFault}
 use Rattle.spd_file.specs.Policy.{policy_meaning}
 use Rattle.spd_line.specs.declared.line.LineParts.{LineParts}
 use Rattle.spd_line.specs.First.{name_at, verdict_of}
@@ -15,6 +14,7 @@ use Rattle.trace_text.specs.Trace.{events_of}
 use Rattle.audit_top.specs.declared.outcome.Outcome.{Outcome}
 use Rattle.audit_top.specs.declared.outcome.TraceFault.{TraceFault}
 use Rattle.audit_top.specs.Answer.{Answer, ending, with_file, with_line}
+use Rattle.audit_top.specs.PolicyFile.{most_policy, with_policy}
 use Rattle.audit_top.specs.VerdictLine.{verdict_line}
 
 -- The line of a packet: its first line's judgement and name.
@@ -51,10 +51,6 @@ is_judge (command ∷ policy ∷ trace ∷ []) =
     bytes_eq command (codes "judge") && not (length policy == 0) && not (length trace == 0)
 is_judge _ = false
 
--- The most bytes of a policy file.
-abbrev pub most_policy : ℕ
-most_policy = 1048576
-
 -- The most bytes of a trace.
 abbrev pub most_trace : ℕ
 most_trace = 67108864
@@ -62,11 +58,6 @@ most_trace = 67108864
 -- The second word names the policy, the third the trace.
 abbrev pub judge_limits : ℕ → Option ℕ
 judge_limits place = if place == 2 then Some most_policy else if place == 3 then Some most_trace else None
-
--- Goes on with the lines of the policy file that the word at a place names.
-abbrev pub with_policy : ℕ → Result (List LineParts) PolicyFault → (List LineParts → Option Answer) → Option Answer
-with_policy place (Err fault) next = Some (ending (Outcome.PolicyFault place fault))
-with_policy place (Ok lines) next = next lines
 
 -- The answer by some lines and a trace.
 abbrev pub by_trace : List LineParts → List ℕ → Option Answer
@@ -84,11 +75,6 @@ by_policy told words policy = with_policy 2 (policy_meaning policy) (by_lines to
 abbrev pub judge_answer : (List ℕ → Option (List ℕ)) → List (List ℕ) → Option Answer
 judge_answer told words = with_file told words 2 most_policy (by_policy told words)
 
--- The outcome of a call that refuses by an outcome too.
-abbrev pub merged : Result Outcome Outcome → Outcome
-merged (Ok outcome) = outcome
-merged (Err outcome) = outcome
-
 -- The outcomes of judging a trace, a fault of writing being one that the sink counted.
 abbrev pub TraceCauses : ℕ → ℕ → Outcome → Type 0
 TraceCauses before now Outcome.WriteFault = Rose before now
@@ -99,25 +85,4 @@ TraceCauses before now Outcome.Usage = ⊥
 TraceCauses before now (Outcome.PolicyFault word fault) = ⊥
 TraceCauses before now (Outcome.ReadFault word) = ⊥
 TraceCauses before now (Outcome.TooLong word) = ⊥
-
--- The refusals of one write.
-abbrev pub WriteCauses : ℕ → ℕ → Outcome → Type 0
-WriteCauses before now Outcome.WriteFault = Rose before now
-WriteCauses before now Outcome.NoMemory = Unit {0}
-WriteCauses before now Outcome.Done = ⊥
-WriteCauses before now Outcome.Usage = ⊥
-WriteCauses before now (Outcome.PolicyFault word fault) = ⊥
-WriteCauses before now (Outcome.TraceFault line fault) = ⊥
-WriteCauses before now (Outcome.ReadFault word) = ⊥
-WriteCauses before now (Outcome.TooLong word) = ⊥
-
--- The refusals of reading a policy: its fault, or want of memory.
-abbrev pub PolicyCauses : ℕ → Result (List LineParts) PolicyFault → Outcome → Type 0
-PolicyCauses place meaning (Outcome.PolicyFault word fault) = (word ≡ place) × (meaning ≡ Err fault)
-PolicyCauses place meaning Outcome.NoMemory = Unit {0}
-PolicyCauses place meaning Outcome.Done = ⊥
-PolicyCauses place meaning Outcome.Usage = ⊥
-PolicyCauses place meaning Outcome.WriteFault = ⊥
-PolicyCauses place meaning (Outcome.TraceFault line fault) = ⊥
-PolicyCauses place meaning (Outcome.ReadFault word) = ⊥
-PolicyCauses place meaning (Outcome.TooLong word) = ⊥
+TraceCauses before now (Outcome.EntryLimit word direction line at) = ⊥

@@ -1,26 +1,7 @@
--- The text of a verdict.
+-- The line of a verdict.
 use Rattle.std.specs.Prelude.{ℕ, List, ◌++◌, codes, decimal}
-use Rattle.sel_text.specs.Text.{address_text}
-use Rattle.spd_line.specs.declared.action.Ipsec.{Ipsec}
-use Rattle.spd_line.specs.declared.judgement.Carriage.{Carriage}
 use Rattle.spd_line.specs.declared.judgement.Judgement.{Judgement}
-
--- The IPsec protocol.
-abbrev pub ipsec_text : Ipsec → List ℕ
-ipsec_text Ipsec.Esp = codes "esp"
-ipsec_text Ipsec.Ah = codes "ah"
-
--- The mode, a tunnel with its two gates.
-abbrev pub carriage_text : Carriage → List ℕ
-carriage_text Carriage.Transport = codes " transport"
-carriage_text (Carriage.Tunnel first second) =
-    codes " tunnel " ++ (address_text first ++ (codes " " ++ address_text second))
-
--- The judgement, for a tunnel with its gates in the order of travel.
-abbrev pub judgement_text : Judgement → List ℕ
-judgement_text Judgement.Discard = codes "discard"
-judgement_text Judgement.Bypass = codes "bypass"
-judgement_text (Judgement.Protect ipsec carriage) = codes "protect " ++ (ipsec_text ipsec ++ carriage_text carriage)
+use Rattle.spd_views.specs.JudgementText.{judgement_text}
 
 -- The number of a trace line, the judgement of its packet, and the name of the line that gave it.
 abbrev pub verdict_line : ℕ → Judgement → List ℕ → List ℕ

@@ -2,12 +2,14 @@ ghost use Rattle.std.specs.Prelude.{◌≡◌, ◌+◌, ◌≤◌, ◌++◌, cod
 ghost use Rattle.arrayvec.specs.ArrayString.{array_string_len};
 ghost use Rattle.spd_file.specs.Fault.{policy_fault_text};
 ghost use Rattle.trace_text.specs.Fault.{event_fault_text};
-ghost use Rattle.audit_top.specs.ErrorLine.{error_line, trace_fault_text, trace_line, word_line};
+ghost use Rattle.audit_top.specs.ErrorLine.{error_line, limit_text, trace_fault_text, trace_line, trace_place_text, word_line};
 
 use crate::{Outcome, TraceFault};
 use arrayvec::ArrayString;
 use itoa::Buffer;
+use sel_box::Direction;
 use spd_file::PolicyFault;
+use spd_views::direction_word;
 use trace_text::EventFault;
 
 // Room for the longest line.
@@ -26,6 +28,12 @@ pub fn line_of(outcome: &Outcome) -> Option<Line>
         Outcome::PolicyFault { word, fault } => Some(line_of_policy(*word, fault)),
         Outcome::TraceFault { line, fault } => Some(line_of_trace(*line, fault)),
         Outcome::TooLong { word } => Some(line_of_word(*word, ": too long\n")),
+        Outcome::EntryLimit {
+            word,
+            direction,
+            line,
+            at,
+        } => Some(line_of_limit(*word, *direction, *line, *at)),
         Outcome::ReadFault { word } => Some(line_of_word(*word, ": cannot read\n")),
         Outcome::WriteFault => Some(plain_line("error: cannot write\n")),
         Outcome::NoMemory => Some(plain_line("error: out of memory\n")),
@@ -72,6 +80,41 @@ fn line_of_trace(number: u64, fault: &TraceFault) -> Line
     push_trace_fault(&mut line, fault);
     line.push_str("\n");
     line
+}
+
+fn line_of_limit(word: u32, direction: Direction, number: u32, at: Option<u64>) -> Line
+    ensures { result.bytes ≡ word_line word (codes ": entry limit: " ++ (limit_text direction number at ++ codes "\n")) }
+{
+    let mut line = plain_line("error: word ");
+    push_number(&mut line, word as u64);
+    line.push_str(": entry limit: ");
+    push_limit(&mut line, direction, number, at);
+    line.push_str("\n");
+    line
+}
+
+// The direction and the policy line at which a limit is passed.
+fn push_limit(line: &mut Line, direction: Direction, number: u32, at: Option<u64>)
+    requires { array_string_len line.old ≤ 50 }
+    ensures bytes { line.new.bytes ≡ line.old.bytes ++ limit_text direction number at }
+    ensures len { array_string_len line.new ≤ 120 }
+{
+    line.push_str(direction_word(direction));
+    line.push_str(" line ");
+    push_number(line, number as u64);
+    push_trace_place(line, at);
+}
+
+// The trace line of an edit, where there is one.
+fn push_trace_place(line: &mut Line, at: Option<u64>)
+    requires { array_string_len line.old ≤ 80 }
+    ensures bytes { line.new.bytes ≡ line.old.bytes ++ trace_place_text at }
+    ensures len { array_string_len line.new ≤ array_string_len line.old + 35 }
+{
+    if let Some(number) = at {
+        line.push_str(" at trace line ");
+        push_number(line, number);
+    }
 }
 
 fn push_number(line: &mut Line, number: u64)

@@ -36,7 +36,7 @@ pub fn load_word<F: Files>(
 }
 
 // The word at a place, counted from 1.
-fn word(words: &WordList, place: u32) -> &str
+pub fn word(words: &WordList, place: u32) -> &str
     requires first { 1 ≤ place }
     requires last { place ≤ length words.now }
     ensures { result.now ≡ word_at words.now place }

@@ -1,24 +1,21 @@
-ghost use Rattle.std.specs.Prelude.{◌≡◌, ◌+◌, ◌<◌, ◌≤◌, drop, length, option_map, IsTrue, Ok, OnOk, OnErr, IfOk, IfErr};
+ghost use Rattle.std.specs.Prelude.{◌≡◌, ◌+◌, ◌<◌, ◌≤◌, drop, length, option_map, IsTrue, OnOk, OnErr, IfOk, IfErr};
 ghost use Rattle.pair_io.specs.Gains.{Gains, GainsPrefix};
 ghost use Rattle.audit_top.specs.Answer.{Answer, IsSent};
-ghost use Rattle.audit_top.specs.Ends.{counts, Causes, Ends, EndsBy, Leaves};
-ghost use Rattle.audit_top.specs.Judge.{by_event, is_judge, judge_answer, judge_limits, merged, packet_line, trace_answer, PolicyCauses, TraceCauses, WriteCauses};
-ghost use Rattle.spd_file.specs.Policy.{policy_meaning};
+ghost use Rattle.audit_top.specs.Ends.{counts, merged, Causes, Ends, EndsBy, Leaves};
+ghost use Rattle.audit_top.specs.Judge.{by_event, is_judge, judge_answer, judge_limits, packet_line, trace_answer, TraceCauses};
+ghost use Rattle.audit_top.specs.Writing.{WriteCauses};
 ghost use Rattle.trace_text.specs.Event.{event_now};
 ghost use Rattle.trace_text.specs.Trace.{events_of};
 
 use crate::files::load_word;
+use crate::policy_file::{MOST_POLICY, read_lines};
 use crate::verdict_line::append_verdict;
 use crate::{Outcome, TraceFault};
 use pair_io::{Files, Sink, WordList, write_all};
 use sel_box::{Direction, Packet};
-use spd_file::{PolicyFault, read_policy};
 use spd_line::LineList;
 use std::alloc::Global;
 use trace_text::{Event, next_event};
-
-// The most bytes of a policy file.
-const MOST_POLICY: u64 = 1_048_576;
 
 // The most bytes of a trace.
 const MOST_TRACE: u64 = 67_108_864;
@@ -72,19 +69,6 @@ fn judge_files<F: Files, O: Sink>(
     let lines = read_lines(alloc, 2, policy.as_slice())?;
     let trace = load_word(alloc, files, words, 3, MOST_TRACE)?;
     judge_trace(alloc, &lines, trace.as_slice(), out)
-}
-
-// The lines of the policy file that the word at a place names.
-fn read_lines(alloc: Global, place: u32, bytes: &[u8]) -> Result<LineList, Outcome>
-    ensures lines { IfOk result (λ lines. policy_meaning bytes.now ≡ Ok lines) }
-    ensures few { IfOk result (λ lines. length lines ≤ 4096) }
-    ensures refused { IfErr result (PolicyCauses place (policy_meaning bytes.now)) }
-{
-    match read_policy(alloc, bytes) {
-        Ok(lines) => Ok(lines),
-        Err(PolicyFault::NoMemory) => Err(Outcome::NoMemory),
-        Err(fault) => Err(Outcome::PolicyFault { word: place, fault }),
-    }
 }
 
 // Judges each packet of the trace and writes its line, up to the first trace line that is refused.

@@ -5,11 +5,16 @@
 pub use outcome::{Outcome, TraceFault, status};
 pub use running::{report, run};
 
+#[cfg(test)]
+mod decorrelate_tests;
+mod decorrelating;
 mod error_line;
 mod files;
 mod judging;
 mod outcome;
+mod policy_file;
 mod running;
 #[cfg(test)]
 mod tests;
 mod verdict_line;
+mod view_line;

@@ -2,6 +2,7 @@ ghost use Rattle.std.specs.Prelude.{◌≡◌};
 ghost use Rattle.audit_top.specs.Outcome.{status_of};
 
 use pair_io::{Failed, NoMemory};
+use sel_box::Direction;
 use spd_file::PolicyFault;
 use trace_text::EventFault;
 
@@ -22,13 +23,31 @@ pub enum Outcome {
     /// The words are those of no command.
     Usage,
     /// The policy file that the word names is refused.
-    PolicyFault { word: u32, fault: PolicyFault },
+    PolicyFault {
+        word: u32,
+        fault: PolicyFault,
+    },
     /// A line of the trace, counted from 1, is refused.
-    TraceFault { line: u64, fault: TraceFault },
+    TraceFault {
+        line: u64,
+        fault: TraceFault,
+    },
     /// The file that the word names has more bytes than it may.
-    TooLong { word: u32 },
+    TooLong {
+        word: u32,
+    },
+    /// More entries than LIMIT come up while the policy that the word names is cut in a direction: at
+    /// one of its lines, counted from 1, and where a trace line's edit made it so, at that trace line.
+    EntryLimit {
+        word: u32,
+        direction: Direction,
+        line: u32,
+        at: Option<u64>,
+    },
     /// The file that the word names couldn't be read.
-    ReadFault { word: u32 },
+    ReadFault {
+        word: u32,
+    },
     /// The text couldn't be written.
     WriteFault,
     /// There was no memory.
@@ -67,6 +86,7 @@ pub fn status(outcome: &Outcome) -> u8
         Outcome::PolicyFault { .. } => 3,
         Outcome::TraceFault { .. } => 4,
         Outcome::TooLong { .. } => 4,
+        Outcome::EntryLimit { .. } => 5,
         Outcome::ReadFault { .. } => 6,
         Outcome::WriteFault => 7,
         Outcome::NoMemory => 8,

@@ -3,13 +3,15 @@ ghost use Rattle.audit_top.specs.Ends.{counts, Causes, Ends, Leaves};
 ghost use Rattle.audit_top.specs.Run.{answer_of, is_command, limits_of, Reports};
 
 use crate::error_line::line_of;
-use crate::{Outcome, judging};
+use crate::{Outcome, decorrelating, judging};
 use pair_io::{Files, Sink, WordList, write_all};
 use std::alloc::Global;
 
 /// Runs the command of the words, and says how it ended. `judge POLICY TRACE` writes for each packet
-/// of the trace its verdict by the policy's first matching line (RFC 4301 sections 4.4.1 and 5); no
-/// other words are a command.
+/// of the trace its verdict by the policy's first matching line (RFC 4301 sections 4.4.1 and 5);
+/// `decorrelate LIMIT POLICY` writes the entries that stand for the policy, of which no two of a
+/// direction have a point in common, as SPD-S, SPD-O and SPD-I (RFC 4301 section 4.4.1 and Appendix B);
+/// no other words are a command.
 ///
 /// Where the files tell their contents, the outcome and the text on `out` are the command's answer.
 /// A run that ends for want of memory or at a write leaves a front of that text, and one that ends at
@@ -17,8 +19,9 @@ use std::alloc::Global;
 /// before their place. Each line goes to `write_all` once, whole. For an outcome that is a refusal
 /// one line is put to `err`, without memory; where that fails, the outcome stays.
 ///
-/// Loads the policy and the trace whole, one pass over each, and takes time by the number of packets
-/// and of lines before their first.
+/// Loads each file whole, in one pass. `judge` takes time by the number of packets and of lines before
+/// their first. `decorrelate` takes time by the number of boxes of the policy times the pieces that each
+/// is in when the earlier ones are cut from it, at most LIMIT, and memory by LIMIT.
 pub fn run<F: Files, O: Sink, E: Sink>(
     alloc: Global,
     words: &WordList,
@@ -59,6 +62,8 @@ fn perform<F: Files, O: Sink>(
 {
     if judging::is_form(words) {
         judging::judge(alloc, words, files, out)
+    } else if decorrelating::is_form(words) {
+        decorrelating::decorrelate(alloc, words, files, out)
     } else {
         Outcome::Usage
     }

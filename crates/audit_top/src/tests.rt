@@ -53,7 +53,7 @@ fn bytes_of(alloc: Global, text: &[u8]) -> Result<Bytes, NoMemory> {
     Ok(bytes)
 }
 
-fn file_of(alloc: Global, name: &str, text: &[u8]) -> Result<MemFile, NoMemory> {
+pub fn file_of(alloc: Global, name: &str, text: &[u8]) -> Result<MemFile, NoMemory> {
     Ok(MemFile::new(bytes_of(alloc, name.as_bytes())?, bytes_of(alloc, text)?))
 }
 
@@ -90,7 +90,7 @@ fn files_of(alloc: Global) -> Result<MemFiles, NoMemory> {
 }
 
 // The words of a text, between single spaces; none of the empty text.
-fn words_of(alloc: Global, text: &str) -> Result<WordList, NoMemory> {
+pub fn words_of(alloc: Global, text: &str) -> Result<WordList, NoMemory> {
     let mut list = WordList::new(alloc);
     if !text.is_empty() {
         for word in text.split(' ') {

@@ -1,7 +1,8 @@
 use Rattle.std.proofs.Common.{◌≡◌, Ok}
 use Rattle.std.proofs.lemmas.Result.{err_from_is_err_and}
 use Rattle.audit_top.specs.Ends.{counts}
-use Rattle.audit_top.specs.Judge.{by_policy, by_trace, most_policy, most_trace}
+use Rattle.audit_top.specs.Judge.{by_policy, by_trace, most_trace}
+use Rattle.audit_top.specs.PolicyFile.{most_policy}
 use Rattle.spd_file.specs.Policy.{policy_meaning}
 use Rattle.audit_top.proofs.Filed.{Ends-file, Ends-load}
 use Rattle.audit_top.proofs.judging.judge_files.Goals as goal
