@@ -1,9 +1,9 @@
 -- A text that is written line by line.
-use Rattle.std.proofs.Common.{◌≡◌, ℕ, List, [], ◌++◌, ◌≢◌, sym, ◌∙◌, ap, refl, append_assoc}
+use Rattle.std.proofs.Common.{ℕ, List, [], ◌++◌, ◌≢◌, sym, ◌∙◌, ap, refl, append_assoc}
 use Rattle.std.proofs.lemmas.List.{append-nil}
 use Rattle.std.specs.Prelude.{Option}
 use Rattle.pair_io.specs.Gains.{Gains, GainsPrefix}
-use Rattle.pair_io.proofs.Gains.{Gains-nothing, Gains-then, GainsPrefix-first, GainsPrefix-second}
+use Rattle.pair_io.proofs.Gains.{Gains-nothing, Gains-then, GainsPrefix-second}
 use Rattle.audit_top.specs.declared.outcome.Outcome.{Outcome}
 use Rattle.audit_top.specs.Answer.{Answer, IsSent, ending, text_of, with_line}
 use Rattle.audit_top.specs.Ends.{EndsBy, IsAnswer}

@@ -16,7 +16,7 @@ HasReal entry = (x : PointFields) × IsTrue (entry_has entry x) × IsReal x
 pub record StandsFor (entries : List Entry) (d : Direction) (lines : List LineParts) : Type 0 where
   -- no two entries have a point in common
   pub apart : AllPairs (AreApart entry_has) entries
-  -- no entry is idle: each has the values of some packet
+  -- each has a real point: the values of some packet
   pub real : All HasReal entries
   -- the values of each packet lie in exactly one entry
   pub one : (x : PointFields) → IsReal x → count_by (λ entry. entry_has entry x) entries ≡ 1

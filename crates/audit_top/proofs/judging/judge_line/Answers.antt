@@ -1,6 +1,4 @@
-use Rattle.std.proofs.Common.{rules}
 use Rattle.std.proofs.lemmas.Result.{err_from_is_err_and}
-use Rattle.audit_top.specs.Judge.{trace_answer}
 use Rattle.audit_top.proofs.judging.judge_line.Goals as goal
 
 pub returns-in_err-judge_event-in-Ok-clause-ends : goal.returns-in_err-judge_event-in-Ok-clause-ends

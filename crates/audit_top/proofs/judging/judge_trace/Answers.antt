@@ -1,8 +1,6 @@
-use Rattle.std.proofs.Common.{ℕ, ◌+◌, ◌-◌, ◌<◌, ◌≤◌, drop, length, arith}
+use Rattle.std.proofs.Common.{ℕ, ◌+◌, ◌-◌, ◌<◌, ◌≤◌, arith}
 use Rattle.std.proofs.lemmas.List.{length-drop}
 use Rattle.std.proofs.lemmas.Result.{err_from_is_err_and}
-use Rattle.trace_text.specs.Trace.{events_of}
-use Rattle.audit_top.specs.Judge.{trace_answer}
 use Rattle.audit_top.proofs.Events.{TraceCauses-no_read, all_left}
 use Rattle.audit_top.proofs.Sent.{IsSent-ends, IsSent-then}
 use Rattle.audit_top.proofs.judging.judge_trace.Goals as goal
