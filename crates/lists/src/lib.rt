@@ -1,4 +1,4 @@
-//! The list that all crates use, and the one error for want of memory.
+//! The list that all crates use, and the one error of a call that found no memory.
 #![tactic(auto)]
 
 pub use list::List;

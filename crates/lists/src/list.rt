@@ -1,9 +1,12 @@
-ghost use Rattle.std.specs.Prelude.{◌≡◌, ◌==◌, ◌∷◌, ◌++◌, [], length, OnOk, OnErr, slice_get};
+ghost use Rattle.std.specs.Prelude.{◌≡◌, ◌==◌, ◌∷◌, ◌++◌, [], length, take, slice_get};
+ghost use Rattle.std.specs.Prelude.{IfOk, OnOk, OnErr};
 ghost use Rattle.std.specs.Option.{option_copied};
+ghost use Rattle.std.specs.Slice.Iter.{iter_rest};
 
 use crate::memory::NoMemory;
 use std::alloc::Global;
 use std::marker::Model;
+use std::slice;
 
 /// An ordered list. A contract sees it as the list of its items.
 #[derive(Debug, Drop)]
@@ -29,8 +32,19 @@ impl<T> List<T> {
         }
     }
 
-    /// Puts an item at the end, in constant time over many calls. Where memory is wanting, the list
-    /// is unchanged and the item is dropped.
+    /// The list of one item. Where there is no memory, the item is dropped.
+    pub fn of_one(alloc: Global, item: T) -> Result<Self, NoMemory>
+    where
+        T: Drop,
+        ensures { IfOk result (λ list. list ≡ item ∷ []) }
+    {
+        let mut list = List::new(alloc);
+        list.push(item)?;
+        Ok(list)
+    }
+
+    /// Puts an item at the end, in constant time over many calls. Where there is no memory, the
+    /// list is unchanged and the item is dropped.
     pub fn push(&mut self, item: T) -> Result<(), NoMemory>
     where
         T: Drop,
@@ -39,6 +53,20 @@ impl<T> List<T> {
     {
         self.items.push(item)?;
         Ok(())
+    }
+
+    /// Keeps so many items, the first ones; a shorter list stays as it is.
+    pub fn truncate(&mut self, len: usize)
+    where
+        T: Drop,
+        ensures { self.new ≡ take len self.old }
+    {
+        self.items.truncate(len);
+    }
+
+    /// What the list takes its memory from.
+    pub fn allocator(&self) -> Global {
+        *self.items.allocator()
     }
 
     /// How many items there are.
@@ -68,34 +96,34 @@ impl<T> List<T> {
     {
         self.items.as_slice()
     }
+
+    /// Goes over the items, in order.
+    pub fn iter(&self) -> slice::Iter<'_, T>
+        ensures { iter_rest result ≡ self.now }
+    {
+        self.items.iter()
+    }
+}
+
+impl<'a, T> IntoIterator for &'a List<T> {
+    type Item = &'a T;
+
+    type IntoIter = slice::Iter<'a, T>;
+
+    ghost into_iter_gives = { λ list items. iter_rest items ≡ list.now };
+
+    fn into_iter(self) -> Self::IntoIter {
+        self.iter()
+    }
 }
 
 impl<T: Copy> List<T> {
-    /// Puts items at the end, in order. Where memory is wanting, the list is unchanged.
+    /// Puts items at the end, in order. Where there is no memory, the list is unchanged.
     pub fn extend(&mut self, items: &[T]) -> Result<(), NoMemory>
         ensures ok { OnOk result (self.new ≡ self.old ++ items.now) }
         ensures err { OnErr result (self.new ≡ self.old) }
     {
         self.items.extend_from_slice(items)?;
-        Ok(())
-    }
-}
-
-#[cfg(test)]
-mod tests {
-    use super::*;
-    use std::test::Fail;
-
-    #[test]
-    fn stores_items(rt: HostRuntime) -> Result<(), Fail> {
-        let mut numbers = List::new(rt.alloc());
-        assert!(rt; numbers.is_empty());
-        numbers.push(7u32)?;
-        numbers.extend(&[8, 9])?;
-        assert_eq!(rt; numbers.as_slice(), [7, 8, 9].as_slice());
-        assert_eq!(rt; numbers.get(2).copied(), Some(9));
-        assert_eq!(rt; numbers.get(3).copied(), None);
-        assert_eq!(rt; numbers.len(), 3);
         Ok(())
     }
 }
