@@ -1,3 +1,3 @@
 pub mod Gains
-mod Fronts
+mod Prefixes
 mod Faults

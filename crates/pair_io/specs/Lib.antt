@@ -2,7 +2,6 @@ pub mod Counts
 pub mod Gains
 pub mod Reading
 pub mod Loading
-pub mod MemFile
 pub mod MemFiles
 pub mod MemSink
 pub mod Real

@@ -2,8 +2,8 @@ ghost use Rattle.std.specs.Prelude.{◌≡◌, ◌+◌, ◌^◌, ◌<◌, ◌≤
 ghost use Rattle.pair_io.specs.Counts.{Rose, one_more};
 ghost use Rattle.pair_io.specs.Reading.{Took, Ended, RanDry};
 
-/// A count after one more, which stays at its last value.
-pub(crate) fn one_more(count: u64) -> u64
+// A count after one more, which stays at its last value.
+pub fn one_more(count: u64) -> u64
     ensures value { result ≡ one_more count }
     ensures rises { Rose count result }
     ensures grows { count ≤ result }
@@ -11,17 +11,17 @@ pub(crate) fn one_more(count: u64) -> u64
     count.saturating_add(1)
 }
 
-/// What files have handed out: how many bytes, the place behind the last of them, and how many
-/// reads had room and gave nothing.
+// What files have handed out: how many bytes, the place behind the last of them, and how many reads
+// had room and gave nothing.
 #[derive(Clone, Copy, Debug)]
-pub(crate) struct Handed {
-    pub(crate) taken: u64,
-    pub(crate) end: u64,
-    pub(crate) dry: u64,
+pub struct Handed {
+    pub taken: u64,
+    pub end: u64,
+    pub dry: u64,
 }
 
 impl Handed {
-    pub(crate) fn new() -> Self
+    pub fn new() -> Self
         ensures { result ≡ record { taken = 0; end = 0; dry = 0 } }
     {
         Handed {
@@ -31,8 +31,8 @@ impl Handed {
         }
     }
 
-    /// Notes that a read at a place, with this much room, gave so many bytes.
-    pub(crate) fn note(&mut self, at: u64, room: usize, count: usize)
+    // Notes that a read at a place, with this much room, gave so many bytes.
+    pub fn note(&mut self, at: u64, room: usize, count: usize)
         requires fits { at + room < 2 ^ 64 }
         requires within { count ≤ room }
         ensures taken { Took count self.old.taken self.new.taken }

@@ -1,4 +1,5 @@
-ghost use Rattle.std.specs.Prelude.{◌≡◌, ℕ, ◌+◌, ◌^◌, ◌<◌, ◌≤◌, List, Option, length, OnErr, IfOk, IfSome};
+ghost use Rattle.std.specs.Prelude.{◌≡◌, ℕ, ◌+◌, ◌^◌, ◌<◌, ◌≤◌, List, Option, length};
+ghost use Rattle.std.specs.Prelude.{OnErr, IfOk, IfSome};
 ghost use Rattle.pair_io.specs.Counts.{Rose, NoneFell};
 ghost use Rattle.pair_io.specs.Reading.{Gives, TookBy, EndedBy, RanDryBy};
 
@@ -22,9 +23,10 @@ pub trait Files {
     /// How many reads had room and gave nothing. It counts no fault.
     ghost dry: { Self → ℕ };
 
-    /// Reads the bytes of a name from a place on, as many as it likes up to the slice's length, into
-    /// the start of the slice. `Ok` says how many; it is 0 only at or past the end, or for an empty
-    /// slice. A name that is missing is a fault of that name. What the files hold never changes.
+    /// Reads the bytes of a name from a place on, as many as it likes up to the slice's length,
+    /// into the start of the slice. `Ok` says how many; it is 0 only at or past the end, or for an
+    /// empty slice. A name that is missing is a fault of that name. What the files hold never
+    /// changes.
     fn read(&mut self, name: &str, at: u64, into: &mut [u8]) -> Result<usize, Failed>
         requires { at + length into.old < 2 ^ 64 }
         ensures told { told self.new ≡ told self.old }

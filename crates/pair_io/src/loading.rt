@@ -23,14 +23,14 @@ pub enum LoadFault {
 
 impl fmt::Display for LoadFault {
     ghost use Rattle.std.specs.Prelude.{Some};
-    ghost use Rattle.pair_io.specs.Loading.{fault_text};
+    ghost use Rattle.pair_io.specs.Loading.{load_fault_text};
 
-    ghost output = { λ fault. Some (fault_text fault) };
+    ghost output = { λ fault. Some (load_fault_text fault) };
 
     fn fmt<W: fmt::Write>(&self, f: &mut fmt::Formatter<W>) -> fmt::Result {
         f.write_str(match self {
-            LoadFault::ReadFault => "the file could not be read",
-            LoadFault::TooLong => "the file is too long",
+            LoadFault::ReadFault => "cannot read",
+            LoadFault::TooLong => "too long",
             LoadFault::NoMemory => "out of memory",
         })
     }
@@ -58,9 +58,9 @@ impl From<lists::NoMemory> for LoadFault {
     }
 }
 
-/// All bytes of a file, of which there may be `most`. It reads to the end, or until more than `most`
-/// bytes came, in time and memory that grow with them. Where it refuses, what was read is dropped.
-/// Whatever it answers, the files tell what they told before, and no count has fallen.
+/// All bytes of a file, of which there may be `most`. It reads to the end, or until more than
+/// `most` bytes came, in time and memory that grow with them. Where it refuses, what was read is
+/// dropped. Whatever it answers, the files tell what they told before, and no count has fallen.
 pub fn load<F: Files>(
     alloc: Global,
     files: &mut F,
@@ -69,7 +69,7 @@ pub fn load<F: Files>(
 ) -> Result<Bytes, LoadFault>
     requires { most ≤ 1073741824 }
 
-    // The bytes are the whole content, where that is told, and in any case the reads came to an end.
+    // The bytes are the whole content, where that is told; in any case the reads came to an end.
     ensures content { IfOk result (λ bytes. IfSome (F.told files.old name.now) (λ content.
         bytes ≡ content)) }
     ensures within { IfOk result (λ bytes. length bytes ≤ most) }

@@ -1,13 +1,106 @@
-ghost use Rattle.std.specs.Prelude.{◌≡◌, ◌+◌, ◌-◌, ◌^◌, ◌<◌, ◌≤◌, min, length, position, is_none, IfSome};
+ghost use Rattle.std.specs.Prelude.{◌≡◌, ◌+◌, ◌-◌, ◌^◌, ◌<◌, ◌≤◌, ◌==◌, [], ◌∷◌, ◌++◌, min};
+ghost use Rattle.std.specs.Prelude.{length, slice_get, position, is_none, OnOk, OnErr, IfSome};
 ghost use Rattle.std.specs.Option.{option_copied};
 ghost use Rattle.pair_io.specs.Reading.{Gives};
 ghost use Rattle.pair_io.specs.Counts.{Rose, NoneFell};
-ghost use Rattle.pair_io.specs.MemFile.{has_name, file_of, content_of, faults_of, with_fault, with_missing};
+ghost use Rattle.pair_io.specs.MemFiles.{has_name, file_of, content_of, faults_of};
+ghost use Rattle.pair_io.specs.MemFiles.{with_fault, with_missing};
 
 use crate::counts::{Handed, one_more};
-use crate::mem_file::{FileList, MemFile};
-use crate::{Failed, Files, NumberList};
+use crate::{Bytes, Failed, Files, NumberList};
+use lists::NoMemory;
+use std::alloc::Global;
 use std::marker::Model;
+
+/// A file in memory: its name, as the bytes of a text, its bytes, and how often a read of it
+/// failed.
+#[derive(Debug, Drop)]
+pub struct MemFile {
+    name: Bytes,
+    bytes: Bytes,
+    faults: u64,
+}
+
+impl MemFile {
+    ghost use Rattle.pair_io.specs.MemFiles.{file_name, file_bytes, file_faults};
+
+    /// A file of which no read has failed. Takes no memory.
+    pub fn new(name: Bytes, bytes: Bytes) -> Self
+        ensures name { file_name result ≡ name }
+        ensures bytes { file_bytes result ≡ bytes }
+        ensures faults { file_faults result ≡ 0 }
+    {
+        MemFile {
+            name,
+            bytes,
+            faults: 0,
+        }
+    }
+}
+
+/// Files in memory, in order. A contract sees the list of the files.
+#[derive(Debug, Drop)]
+pub struct FileList {
+    files: Vec<MemFile>,
+}
+
+impl Model for FileList {
+    ghost use Rattle.std.specs.Prelude.{List};
+    ghost use Rattle.pair_io.specs.declared.mem_files.MemFile.{MemFile};
+
+    ghost Value = { List MemFile };
+
+    ghost view = { λ l. l.files.items };
+}
+
+impl FileList {
+    /// The empty list. Takes no memory.
+    pub fn new(alloc: Global) -> Self
+        ensures { result ≡ [] }
+    {
+        FileList {
+            files: Vec::new(alloc),
+        }
+    }
+
+    /// Puts a file at the end, in constant time over many calls. Where there is no memory, the list
+    /// is unchanged and the file is dropped.
+    pub fn push(&mut self, item: MemFile) -> Result<(), NoMemory>
+        ensures ok { OnOk result (self.new ≡ self.old ++ item ∷ []) }
+        ensures err { OnErr result (self.new ≡ self.old) }
+    {
+        self.files.push(item)?;
+        Ok(())
+    }
+
+    /// How many files there are.
+    pub fn len(&self) -> usize
+        ensures { result ≡ length self.now }
+    {
+        self.files.len()
+    }
+
+    /// Whether there is no file.
+    pub fn is_empty(&self) -> bool
+        ensures { result ≡ (length self.now == 0) }
+    {
+        self.files.is_empty()
+    }
+
+    /// The file at an index, which begins at 0; `None` past the end.
+    pub fn get(&self, index: usize) -> Option<&MemFile>
+        ensures { option_copied result ≡ slice_get self.now index }
+    {
+        self.files.get(index)
+    }
+
+    /// All files, in order.
+    pub fn as_slice(&self) -> &[MemFile]
+        ensures { result.now ≡ self.now }
+    {
+        self.files.as_slice()
+    }
+}
 
 /// Files in memory, which tell their contents. The reads with listed numbers fail.
 #[derive(Debug, Drop)]
@@ -38,8 +131,8 @@ impl Model for MemFiles {
 impl MemFiles {
     ghost use Rattle.pair_io.specs.MemFiles.{HeldFiles};
 
-    /// These files. A read fails where its number, from 1, is in `failing`, or where no file has the
-    /// name; of two files with one name the first is read. Takes no memory.
+    /// These files. A read fails where its number, from 1, is in `failing`, or where no file has
+    /// the name; of two files with one name the first is read. Takes no memory.
     pub fn new(files: FileList, failing: NumberList) -> Self
         ensures told { ⟦<MemFiles as Files>⟧.told result ≡ content_of files }
         ensures new { result ≡ record {
@@ -69,7 +162,7 @@ impl MemFiles {
           missing = with_missing name.now self.old.files self.old.missing;
         } }
     {
-        match place_of(&self.files, name) {
+        match first_index(&self.files, name) {
             Some(place) => {
                 let file = &mut self.files[place];
                 file.faults = one_more(file.faults);
@@ -106,21 +199,22 @@ fn copy_named(files: &[MemFile], name: &[u8], at: u64, into: &mut [u8]) -> Optio
     ensures count { IfSome result (λ n. IfSome (content_of files.now name.now) (λ content.
         n ≡ min (length into.old) (length content - at))) }
     ensures bound { IfSome result (λ n. n ≤ length into.old) }
-    ensures gives { IfSome result (λ n. IfSome (content_of files.now name.now) (Gives at n into.new)) }
+    ensures gives { IfSome result (λ n.
+        IfSome (content_of files.now name.now) (Gives at n into.new)) }
 {
     let file = first_named(files, name)?;
     Some(copy_from(file.bytes.as_slice(), at, into))
 }
 
-// Where the first file of a name stands.
-fn place_of(files: &[MemFile], name: &[u8]) -> Option<usize>
+// The index of the first file of a name.
+fn first_index(files: &[MemFile], name: &[u8]) -> Option<usize>
     ensures { result ≡ position (has_name name.now) files.now }
 {
     files.iter().position(|file| file.name.as_slice() == name)
 }
 
 impl Files for MemFiles {
-    ghost use Rattle.std.specs.Prelude.{◌||◌, OnOk, OnErr, IfOk, is_err};
+    ghost use Rattle.std.specs.Prelude.{◌||◌, IfOk, is_err};
     ghost use Rattle.pair_io.specs.Counts.{one_more, is_listed};
     ghost use Rattle.pair_io.specs.Reading.{TookBy, EndedBy, RanDryBy};
 

@@ -73,8 +73,8 @@ impl Sink for MemSink {
 
     ghost faults = { λ s. s.faults };
 
-    /// Takes the whole piece and no memory, or fails, where the call is listed or the piece is longer
-    /// than the room left.
+    /// Takes the whole piece and no memory, or fails, where the call is listed or the piece is
+    /// longer than the room left.
     fn put(&mut self, piece: &[u8]) -> Result<usize, Failed>
         ensures fails { is_err result ≡ (is_listed (one_more self.old.calls) self.old.failing
             || nat_lt self.old.room (length self.old.written + length piece.now)) }

@@ -72,7 +72,8 @@ impl<R: rt::Files> Files for RealFiles<R> {
     fn read(&mut self, name: &str, at: u64, into: &mut [u8]) -> Result<usize, Failed>
         requires { at + length into.old < 2 ^ 64 }
         ensures bound { IfOk result (λ n. n ≤ length into.old) }
-        ensures count { self.new.faults ≡ cond (is_err result) (one_more self.old.faults) self.old.faults }
+        ensures count { self.new.faults
+            ≡ cond (is_err result) (one_more self.old.faults) self.old.faults }
         ensures taken { TookBy result self.old.taken self.new.taken }
         ensures end { EndedBy at result self.old.end self.new.end }
         ensures dry { RanDryBy (length into.old) result self.old.dry self.new.dry }

@@ -30,7 +30,7 @@ impl<W: Write> RealSink<W> {
     }
 }
 
-// Writes the front of a piece and flushes it, so that what was taken has left this program.
+// Writes the first bytes of a piece and flushes them, so that what was taken has left this program.
 fn write_some<W: Write>(writer: &mut W, piece: &[u8]) -> io::Result<usize>
     ensures bound { IfOk result (λ n. n ≤ length piece.now) }
     ensures progress { IfOk result (λ n. 0 < length piece.now → 0 < n) }

@@ -18,7 +18,8 @@ pub trait Sink {
     fn put(&mut self, piece: &[u8]) -> Result<usize, Failed>
         ensures bound { IfOk result (λ n. n ≤ length piece.now) }
         ensures progress { IfOk result (λ n. 0 < length piece.now → 0 < n) }
-        ensures written { IfOk result (λ n. Gains (told self.old) (told self.new) (take n piece.now)) }
+        ensures written { IfOk result (λ n.
+            Gains (told self.old) (told self.new) (take n piece.now)) }
         ensures unchanged { OnErr result (told self.new ≡ told self.old) }
         ensures cause { OnErr result (Rose (faults self.old) (faults self.new)) }
         ensures faults { faults self.old ≤ faults self.new };

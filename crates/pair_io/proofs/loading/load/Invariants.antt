@@ -1,16 +1,16 @@
 use Rattle.std.proofs.Common.{◌≡◌, ◌≤◌, ◌+◌, ◌-◌, length}
 use Rattle.std.specs.Prelude.{IfSome}
 use Rattle.pair_io.specs.Counts.{NoneFell}
-use Rattle.pair_io.proofs.Fronts.{IsFront}
+use Rattle.pair_io.proofs.Prefixes.{IsPrefix}
 use Rattle.pair_io.proofs.loading.load.Given as goal
 
--- the bytes so far are a front of the content
+-- the bytes so far are a prefix of the content
 abbrev pub invariant-loop-bytes : goal.invariant-loop-bytes
 invariant-loop-bytes g l =
     let files = g.F.Files in
     record {
       told : files.told l.files ≡ files.told l.fn.files;
-      front : IfSome (files.told l.fn.files l.name) (IsFront l.bytes);
+      prefix : IfSome (files.told l.fn.files l.name) (IsPrefix l.bytes);
       within : length l.bytes ≤ l.most;
       faults : NoneFell (files.faults l.fn.files) (files.faults l.files);
       taken : files.taken l.fn.files ≤ files.taken l.files;

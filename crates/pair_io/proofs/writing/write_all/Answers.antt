@@ -7,7 +7,9 @@ pub loop-rest-preserved : goal.loop-rest-preserved
 loop-rest-preserved g c =
     let count = c.in_ok-count.count in
     let rest = c.loop-rest.rest.now in
+    let splits = sym (take-append-drop count rest) in
+    let written = c.in_ok-count.ensures.written in
     record {
-      sent = rw take_rest (GainsSoFar-more (take count rest) (drop count rest) (sym (take-append-drop count rest)) c.loop-rest.invariant.sent c.in_ok-count.ensures.written);
+      sent = rw take_rest (GainsSoFar-more (take count rest) (drop count rest) splits c.loop-rest.invariant.sent written);
       faults = omega arith;
     }

@@ -4,7 +4,11 @@ use Rattle.pair_io.proofs.mem_files.MemFiles.count_fault.Goals as goal
 
 pub returns-in-Some : goal.returns-in-Some
 returns-in-Some c =
-    let placed = with_fault-placed c.args.name.now c.self.inside.files.items c.in-Some.place c.self.inside.missing c.index_mut-file.result.now (rw c.deref.ensures.value at c.in-Some.ensures) c.index_mut-file.ensures.value in
+    let found = rw c.deref.ensures.value at c.in-Some.ensures in
+    let files = c.self.inside.files.items in
+    let missing = c.self.inside.missing in
+    let file = c.index_mut-file in
+    let placed = with_fault-placed c.args.name.now files c.in-Some.place missing file.result.now found file.ensures.value in
     rw (← c.self.view_is, c.one_more-file.ensures.value, placed.0, ← placed.1) refl
 
 pub returns-in-None : goal.returns-in-None

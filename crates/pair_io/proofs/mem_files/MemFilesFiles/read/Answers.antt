@@ -1,5 +1,5 @@
 use Rattle.std.proofs.Common.{ap}
-use Rattle.pair_io.specs.MemFile.{content_of}
+use Rattle.pair_io.specs.MemFiles.{content_of}
 use Rattle.pair_io.specs.MemFiles.{HeldFiles}
 use Rattle.pair_io.proofs.Faults.{told-with_fault}
 use Rattle.pair_io.proofs.mem_files.MemFilesFiles.read.Goals as goal
