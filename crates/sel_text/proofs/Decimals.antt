@@ -36,7 +36,8 @@ one_digit n small = record {
 
 digits_push : (ds : List ℕ) (d : ℕ) → d < 10 → list_all is_ascii_digit ds ≡ true → list_all is_ascii_digit (ds ++ (48 + d) ∷ []) ≡ true
 digits_push ds d small all =
-    list_all-append is_ascii_digit ds ((48 + d) ∷ []) ∙ and_from (list_all is_ascii_digit ds) (list_all is_ascii_digit ((48 + d) ∷ [])) all (rw (digit_char_is d small))
+    list_all-append is_ascii_digit ds ((48 + d) ∷ [])
+    ∙ and_from (list_all is_ascii_digit ds) (list_all is_ascii_digit ((48 + d) ∷ [])) all (rw (digit_char_is d small))
 
 digits_in_number : (ds : List ℕ) → is_number ds ≡ true → list_all is_ascii_digit ds ≡ true
 digits_in_number [] is = refl
@@ -47,19 +48,20 @@ is_number_push [] d small is leading = absurd cc
 is_number_push (c ∷ []) d small is leading =
     and_from (not (c == 48)) (list_all is_ascii_digit (c ∷ (48 + d) ∷ [])) leading (digits_push (c ∷ []) d small (digits_in_number (c ∷ []) is))
 is_number_push (c ∷ e ∷ more) d small is leading =
-    and_from (not (c == 48)) (list_all is_ascii_digit ((c ∷ e ∷ more) ++ (48 + d) ∷ [])) leading (digits_push (c ∷ e ∷ more) d small (digits_in_number (c ∷ e ∷ more) is))
+    and_from (not (c == 48)) (list_all is_ascii_digit ((c ∷ e ∷ more)
+    ++ (48 + d) ∷ [])) leading (digits_push (c ∷ e ∷ more) d small (digits_in_number (c ∷ e ∷ more) is))
 
 no_leading_zero_push : (ds : List ℕ) (d : ℕ) → no_leading_zero ds ≡ true → no_leading_zero (ds ++ d ∷ []) ≡ true
 no_leading_zero_push [] d leading = absurd cc
 no_leading_zero_push (c ∷ more) d leading = leading
 
 more_digits : (n : ℕ) (ds : List ℕ) → 10 ≤ n → IsText (n / 10) ds → IsText n (ds ++ (48 + n % 10) ∷ [])
-more_digits n ds large front =
-    let leading = front.leading (omega arith) in
+more_digits n ds large prefix =
+    let leading = prefix.leading (omega arith) in
     let last : n % 10 < 10 = omega arith in
     record {
-      is = is_number_push ds (n % 10) last front.is leading;
-      value = digits_value_push 10 ds (48 + n % 10) ∙ rw (front.value, digit_value_is (n % 10) last) (omega arith);
+      is = is_number_push ds (n % 10) last prefix.is leading;
+      value = digits_value_push 10 ds (48 + n % 10) ∙ rw (prefix.value, digit_value_is (n % 10) last) (omega arith);
       leading = λ positive. no_leading_zero_push ds (48 + n % 10) leading;
     }
 

@@ -26,16 +26,19 @@ digits_value_after-ge n [] = omega arith
 digits_value_after-ge n (d ∷ ds) = omega (arith, digits_value_after-ge (n * 10 + digit_value d) ds)
 
 -- one digit on
-pub digits_value_after_next : (n : ℕ) (ds : List ℕ) (i : ℕ) → list_all is_ascii_digit ds ≡ true → i < length ds → digits_value_after 10 n (drop i ds) ≡ digits_value_after 10 (n * 10 + (get_or ds i 0 - 48)) (drop (i + 1) ds)
+pub digits_value_after_next : (n : ℕ) (ds : List ℕ) (i : ℕ) → list_all is_ascii_digit ds ≡ true → i < length ds
+    → digits_value_after 10 n (drop i ds) ≡ digits_value_after 10 (n * 10 + (get_or ds i 0 - 48)) (drop (i + 1) ds)
 digits_value_after_next n ds i all inside =
-    at_drop_more (digits_value_after 10 n) ds i 0 inside ∙ ap (λ d. digits_value_after 10 (n * 10 + d) (drop (i + 1) ds)) (digit_value-ascii_digit (get_or ds i 0) (digit_at ds i all inside))
+    at_drop_more (digits_value_after 10 n) ds i 0 inside
+    ∙ ap (λ d. digits_value_after 10 (n * 10 + d) (drop (i + 1) ds)) (digit_value-ascii_digit (get_or ds i 0) (digit_at ds i all inside))
 
 pub digits_value_after-append : (n : ℕ) (ds es : List ℕ) → digits_value_after 10 n (ds ++ es) ≡ digits_value_after 10 (digits_value_after 10 n ds) es
 digits_value_after-append n [] es = refl
 digits_value_after-append n (d ∷ ds) es = digits_value_after-append (n * 10 + digit_value d) ds es
 
 -- a number is no smaller than what its digits so far and the next one write
-pub next_digit-le : (n whole : ℕ) (ds : List ℕ) (i : ℕ) → list_all is_ascii_digit ds ≡ true → i < length ds → digits_value_after 10 n (drop i ds) ≡ whole → n * 10 + (get_or ds i 0 - 48) ≤ whole
+pub next_digit-le : (n whole : ℕ) (ds : List ℕ) (i : ℕ) → list_all is_ascii_digit ds ≡ true → i < length ds → digits_value_after 10 n (drop i ds) ≡ whole
+    → n * 10 + (get_or ds i 0 - 48) ≤ whole
 next_digit-le n whole ds i all inside is =
     omega (arith, digits_value_after-ge (n * 10 + (get_or ds i 0 - 48)) (drop (i + 1) ds), digits_value_after_next n ds i all inside)
 

@@ -1,9 +1,8 @@
 -- What a text means as an address, by its family.
 use Rattle.std.proofs.Common.{◌≡◌, true, false, List, ℕ}
 use Rattle.sel_text.specs.declared.address.Address.TheVariants.{Four, Six}
-use Rattle.sel_text.specs.Fault.{mapped}
-use Rattle.sel_text.specs.Four.{four_meaning}
-use Rattle.sel_text.specs.Six.{six_meaning}
+use Rattle.sel_text.proofs.Faults.{mapped}
+use Rattle.sel_text.specs.inner.Reading.{four_meaning, six_meaning}
 use Rattle.sel_text.specs.Address.{has_colon, address_meaning}
 use Rattle.sel_text.proofs.Faults.{mapped-bounded, bounded-option_map}
 

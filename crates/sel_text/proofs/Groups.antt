@@ -1,5 +1,6 @@
 -- Groups with colons between them, read one after another.
-use Rattle.std.proofs.Common.{◌≡◌, ℕ, zero, suc, ◌+◌, ◌-◌, ◌*◌, ◌%◌, ◌^◌, ◌<◌, ◌≤◌, Bool, true, false, cond, leb, ltb, List, [], ◌∷◌, length, refl, sym, ap, ◌∙◌, Option, Some, None, option_map, option_and_then, zero-add, arith}
+use Rattle.std.proofs.Common.{◌≡◌, ℕ, zero, suc, ◌+◌, ◌-◌, ◌*◌, ◌%◌, ◌^◌, ◌<◌, ◌≤◌, Bool, true, false, cond, leb, ltb, List, [], ◌∷◌, length, refl, sym, ap}
+use Rattle.std.proofs.Common.{◌∙◌, Option, Some, None, option_map, option_and_then, zero-add, arith}
 use Rattle.std.specs.Int.Digits.{number_from_digits_after}
 use Rattle.std.proofs.Math.Nat.{suc-mul, mul-le-mul_right, pow-suc}
 use Rattle.std.proofs.Math.Pow.{pow-add}
@@ -7,7 +8,7 @@ use Rattle.std.proofs.lemmas.Bool.{lt-leb, ltb-false}
 use Rattle.std.proofs.lemmas.Bool.Decides.{nat_tests}
 use Rattle.sel_text.specs.Parts.{cut}
 use Rattle.sel_text.specs.Six.{group_in, groups_in}
-use Rattle.sel_text.specs.Reading.{counted, with_group}
+use Rattle.sel_text.specs.inner.Reading.{counted, with_group}
 use Rattle.sel_text.proofs.Digits.{power_mono}
 use Rattle.sel_text.proofs.Cuts.{parts-cut}
 
@@ -20,7 +21,8 @@ pub counted_start : (groups : Option (List ℕ)) → option_and_then (counted_af
 counted_start None = refl
 counted_start (Some groups) = rw zero-add
 
-groups_in_more : (text group more : List ℕ) → cut 58 text ≡ Some (group, more) → groups_in text ≡ option_and_then (λ first. option_map (λ rest. first ∷ rest) (groups_in more)) (group_in group)
+groups_in_more : (text group more : List ℕ) → cut 58 text ≡ Some (group, more)
+    → groups_in text ≡ option_and_then (λ first. option_map (λ rest. first ∷ rest) (groups_in more)) (group_in group)
 groups_in_more text group more is = rw (parts-cut 58 text, is)
 
 groups_in_last : (text : List ℕ) → cut 58 text ≡ None → groups_in text ≡ option_and_then (λ (group : ℕ). Some (group ∷ [])) (group_in text)
@@ -30,15 +32,18 @@ groups_in_last text is = rw (parts-cut 58 text, is)
 room : (n : ℕ) → leb (n + 1) 8 ≡ ltb n 8
 room n = grind (arith, nat_tests)
 
-last_by : (so_far : ℕ × ℕ) (group : Option ℕ) → option_and_then (counted_after so_far) (option_and_then (λ (g : ℕ). Some (g ∷ [])) group) ≡ with_group so_far group
+last_by : (so_far : ℕ × ℕ) (group : Option ℕ)
+    → option_and_then (counted_after so_far) (option_and_then (λ (g : ℕ). Some (g ∷ [])) group) ≡ with_group so_far group
 last_by so_far None = refl
 last_by so_far (Some g) = rw room
 
-pub counted_last : (so_far : ℕ × ℕ) (text : List ℕ) → cut 58 text ≡ None → option_and_then (counted_after so_far) (groups_in text) ≡ with_group so_far (group_in text)
+pub counted_last : (so_far : ℕ × ℕ) (text : List ℕ) → cut 58 text ≡ None
+    → option_and_then (counted_after so_far) (groups_in text) ≡ with_group so_far (group_in text)
 counted_last so_far text is = rw (groups_in_last text is) (last_by so_far (group_in text))
 
--- a group in front of others, counted before them or with them
-shifted : (so_far : ℕ × ℕ) (g : ℕ) (groups : List ℕ) (fits : Bool) → ltb so_far.1 8 ≡ fits → counted_after so_far (g ∷ groups) ≡ option_and_then (λ next. counted_after next groups) (cond fits (Some (so_far.0 * 65536 + g, so_far.1 + 1)) None)
+-- a group before others, counted before them or with them
+shifted : (so_far : ℕ × ℕ) (g : ℕ) (groups : List ℕ) (fits : Bool) → ltb so_far.1 8 ≡ fits
+    → counted_after so_far (g ∷ groups) ≡ option_and_then (λ next. counted_after next groups) (cond fits (Some (so_far.0 * 65536 + g, so_far.1 + 1)) None)
 shifted so_far g groups true fits =
     let count : so_far.1 + suc (length groups) ≡ (so_far.1 + 1) + length groups = omega arith in
     rw count
@@ -46,13 +51,18 @@ shifted so_far g groups false full =
     let many = lt-leb (so_far.1 + suc (length groups)) 8 (omega (arith, ltb-false so_far.1 8 full)) in
     rw many
 
-more_by : (so_far : ℕ × ℕ) (group : Option ℕ) (more : Option (List ℕ)) → option_and_then (counted_after so_far) (option_and_then (λ first. option_map (λ rest. first ∷ rest) more) group) ≡ option_and_then (λ next. option_and_then (counted_after next) more) (with_group so_far group)
+more_by : (so_far : ℕ × ℕ) (group : Option ℕ) (more : Option (List ℕ))
+    → option_and_then (counted_after so_far) (option_and_then (λ first. option_map (λ rest. first ∷ rest) more) group)
+    ≡ option_and_then (λ next. option_and_then (counted_after next) more) (with_group so_far group)
 more_by so_far None more = refl
 more_by so_far (Some g) None =
-    elim (ltb so_far.1 8) as (λ fits. None ≡ option_and_then (λ (next : ℕ × ℕ). option_and_then (counted_after next) None) (cond fits (Some (so_far.0 * 65536 + g, so_far.1 + 1)) None)) [ true ↦ refl | false ↦ refl ]
+    elim (ltb so_far.1 8) as (λ fits. None ≡ option_and_then (λ (next : ℕ
+    × ℕ). option_and_then (counted_after next) None) (cond fits (Some (so_far.0 * 65536 + g, so_far.1 + 1)) None)) [ true ↦ refl | false ↦ refl ]
 more_by so_far (Some g) (Some groups) = shifted so_far g groups (ltb so_far.1 8) refl
 
-pub counted_more : (so_far : ℕ × ℕ) (text group more : List ℕ) → cut 58 text ≡ Some (group, more) → option_and_then (counted_after so_far) (groups_in text) ≡ option_and_then (λ next. option_and_then (counted_after next) (groups_in more)) (with_group so_far (group_in group))
+pub counted_more : (so_far : ℕ × ℕ) (text group more : List ℕ) → cut 58 text ≡ Some (group, more)
+    → option_and_then (counted_after so_far) (groups_in text)
+    ≡ option_and_then (λ next. option_and_then (counted_after next) (groups_in more)) (with_group so_far (group_in group))
 counted_more so_far text group more is = rw (groups_in_more text group more is) (more_by so_far (group_in group) (groups_in more))
 
 pub two_to_groups : (n : ℕ) → 2 ^ (16 * n) ≡ 65536 ^ n

@@ -3,7 +3,9 @@ pub mod Cuts
 pub mod Faults
 pub mod Dotted
 pub mod Ports
+pub mod FirstPlaces
 pub mod Groups
+pub mod Lines
 pub mod Sides
 pub mod Families
 pub mod Items

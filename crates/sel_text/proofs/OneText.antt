@@ -1,5 +1,6 @@
 -- A number and an IPv4 address are each read from one text, the one that they print as.
-use Rattle.std.proofs.Common.{◌≡◌, ℕ, zero, suc, ◌+◌, ◌-◌, ◌*◌, ◌/◌, ◌%◌, ◌^◌, ◌<◌, ◌≤◌, Bool, true, false, not, ◌==◌, List, [], ◌∷◌, ◌++◌, refl, sym, ap, ◌∙◌, cond, leb, length, map, get_or, Some, None, option_map, Result, Ok, Err, decimal, arith}
+use Rattle.std.proofs.Common.{◌≡◌, ℕ, zero, suc, ◌+◌, ◌-◌, ◌*◌, ◌/◌, ◌%◌, ◌^◌, ◌<◌, ◌≤◌, Bool, true, false, not, ◌==◌, List, [], ◌∷◌, ◌++◌, refl, sym, ap, ◌∙◌}
+use Rattle.std.proofs.Common.{cond, leb, length, map, get_or, Some, None, option_map, Result, Ok, Err, decimal, arith}
 use Rattle.std.specs.List.{list_all, join_with_byte}
 use Rattle.std.specs.Int.{from_be_bytes, w32}
 use Rattle.std.specs.Char.{is_ascii_digit, digit_value}
@@ -14,10 +15,10 @@ use Rattle.std.proofs.lemmas.List.{length-map}
 use Rattle.sel_text.specs.declared.address.Address.TheVariants.{Four, Six}
 use Rattle.sel_text.specs.declared.fault.TextFault.{TextFault}
 use Rattle.sel_text.specs.Address.{has_colon, address_meaning}
-use Rattle.sel_text.specs.Fault.{mapped}
-use Rattle.sel_text.specs.Four.{dotted_in, are_octets, address_of_octets, four_meaning}
+use Rattle.sel_text.proofs.Faults.{mapped}
+use Rattle.sel_text.specs.Four.{dotted_in, are_octets, address_of_octets}
+use Rattle.sel_text.specs.inner.Reading.{four_meaning, six_meaning}
 use Rattle.sel_text.specs.Parts.{parts, each}
-use Rattle.sel_text.specs.Six.{six_meaning}
 use Rattle.sel_text.specs.Text.{four_text}
 use Rattle.sel_text.specs.Number.{leads, is_number, number_in, number_meaning}
 use Rattle.sel_text.proofs.Digits.{ascii_digit_bounds, digit_value-ascii_digit, digits_value_after-ge}
@@ -26,7 +27,7 @@ use Rattle.sel_text.proofs.Families.{meaning_as_four, meaning_as_six}
 use Rattle.sel_text.proofs.Options.{and_then_some, map_some}
 
 -- the last byte of a text, apart
-last_apart : (byte : ℕ) (more : List ℕ) → (front : List ℕ) × (last : ℕ) × (byte ∷ more ≡ front ++ last ∷ [])
+last_apart : (byte : ℕ) (more : List ℕ) → (prefix : List ℕ) × (last : ℕ) × (byte ∷ more ≡ prefix ++ last ∷ [])
 last_apart byte [] = ([], byte, refl)
 last_apart byte (next ∷ more) =
     let apart = last_apart next more in
@@ -45,28 +46,40 @@ one_digit n small (c ∷ []) is value =
 one_digit n small (c ∷ d ∷ more) is value =
     let both = and_parts (not (c == 48)) (list_all is_ascii_digit (c ∷ d ∷ more)) is in
     let digit = (and_parts (is_ascii_digit c) (list_all is_ascii_digit (d ∷ more)) both.1).0 in
-    absurd (omega (arith, digit_value-ascii_digit c digit, ascii_digit_bounds c digit, eqb-false c 48 (not-true (c == 48) both.0), digits_value_after-ge ((0 * 10 + digit_value c) * 10 + digit_value d) more))
+    absurd (omega (
+      arith,
+      digit_value-ascii_digit c digit,
+      ascii_digit_bounds c digit,
+      eqb-false c 48 (not-true (c == 48) both.0),
+      digits_value_after-ge ((0 * 10 + digit_value c) * 10 + digit_value d) more,
+    ))
 
-leads_front : (digit last : ℕ) (front : List ℕ) → leads digit (front ++ last ∷ []) ≡ true → leads digit front ≡ true
+leads_front : (digit last : ℕ) (prefix : List ℕ) → leads digit (prefix ++ last ∷ []) ≡ true → leads digit prefix ≡ true
 leads_front digit last [] leading = refl
-leads_front digit last (next ∷ front) leading = leading
+leads_front digit last (next ∷ prefix) leading = leading
 
--- digits in front of the last one
-is_number_front : (digit last : ℕ) (front : List ℕ) → is_number (digit ∷ (front ++ last ∷ [])) ≡ true → (is_number (digit ∷ front) ≡ true) × (is_ascii_digit last ≡ true)
-is_number_front digit last front is =
-    let both = and_parts (leads digit (front ++ last ∷ [])) (list_all is_ascii_digit (digit ∷ (front ++ last ∷ []))) is in
-    let all = and_parts (list_all is_ascii_digit (digit ∷ front)) (list_all is_ascii_digit (last ∷ [])) (sym (list_all-append is_ascii_digit (digit ∷ front) (last ∷ [])) ∙ both.1) in
-    (and_from (leads digit front) (list_all is_ascii_digit (digit ∷ front)) (leads_front digit last front both.0) all.0, (and_parts (is_ascii_digit last) true all.1).0)
+-- digits before the last one
+is_number_front : (digit last : ℕ) (prefix : List ℕ) → is_number (digit ∷ (prefix ++ last ∷ [])) ≡ true
+    → (is_number (digit ∷ prefix) ≡ true) × (is_ascii_digit last ≡ true)
+is_number_front digit last prefix is =
+    let both = and_parts (leads digit (prefix ++ last ∷ [])) (list_all is_ascii_digit (digit ∷ (prefix ++ last ∷ []))) is in
+    let all = and_parts (list_all is_ascii_digit (digit ∷ prefix)) (list_all is_ascii_digit (last ∷ []))
+    (sym (list_all-append is_ascii_digit (digit ∷ prefix) (last ∷ [])) ∙ both.1) in (
+      and_from (leads digit prefix) (list_all is_ascii_digit (digit ∷ prefix)) (leads_front digit last prefix both.0) all.0,
+      (and_parts (is_ascii_digit last) true all.1).0,
+    )
 
-more_by_front : (n : ℕ) (ds : List ℕ) → 10 ≤ n → IsOneText (n / 10) ds → (front : List ℕ) (last : ℕ) → is_number (front ++ last ∷ []) ≡ true → digits_value 10 (front ++ last ∷ []) ≡ n → front ++ last ∷ [] ≡ ds ++ (48 + n % 10) ∷ []
+more_by_front : (n : ℕ) (ds : List ℕ) → 10 ≤ n → IsOneText (n / 10) ds → (prefix : List ℕ) (last : ℕ) → is_number (prefix ++ last ∷ []) ≡ true
+    → digits_value 10 (prefix ++ last ∷ []) ≡ n → prefix ++ last ∷ [] ≡ ds ++ (48 + n % 10) ∷ []
 more_by_front n ds large one [] last is value =
     let digit = (and_parts (is_ascii_digit last) true is).0 in
     absurd (omega (arith, digit_value-ascii_digit last digit, ascii_digit_bounds last digit))
-more_by_front n ds large one (digit ∷ front) last is value =
-    let both = is_number_front digit last front is in
+more_by_front n ds large one (digit ∷ prefix) last is value =
+    let both = is_number_front digit last prefix is in
     let bounds = ascii_digit_bounds last both.1 in
-    let sum : digits_value 10 (digit ∷ front) * 10 + (last - 48) ≡ n = omega (arith, digits_value_push 10 (digit ∷ front) last, digit_value-ascii_digit last both.1) in
-    let front_is : digit ∷ front ≡ ds = one (digit ∷ front) both.0 (omega (arith, sum, bounds)) in
+    let sum : digits_value 10 (digit ∷ prefix) * 10 + (last - 48) ≡ n =
+    omega (arith, digits_value_push 10 (digit ∷ prefix) last, digit_value-ascii_digit last both.1) in
+    let front_is : digit ∷ prefix ≡ ds = one (digit ∷ prefix) both.0 (omega (arith, sum, bounds)) in
     let last_is : last ≡ 48 + n % 10 = omega (arith, sum, bounds) in
     ap (λ text. text ++ last ∷ []) front_is ∙ ap (λ byte. ds ++ byte ∷ []) last_is
 
@@ -117,7 +130,8 @@ octet_at (octet ∷ octets) fit (suc i) = octet_at octets (and_parts (leb octet 
 dotted_some : (text octets : List ℕ) → dotted_in text ≡ Some octets → (length (parts 46 text) ≡ 4) × (each number_in (parts 46 text) ≡ Some octets)
 dotted_some text octets is = by_test (length (parts 46 text) == 4) refl is
   where
-    by_test : (b : Bool) → (length (parts 46 text) == 4) ≡ b → cond b (each number_in (parts 46 text)) None ≡ Some octets → (length (parts 46 text) ≡ 4) × (each number_in (parts 46 text) ≡ Some octets)
+    by_test : (b : Bool) → (length (parts 46 text) == 4) ≡ b → cond b (each number_in (parts 46 text)) None ≡ Some octets
+        → (length (parts 46 text) ≡ 4) × (each number_in (parts 46 text) ≡ Some octets)
     by_test true four same = (eqb-true (length (parts 46 text)) 4 four, same)
     by_test false four same = absurd cc
 

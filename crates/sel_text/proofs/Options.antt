@@ -10,7 +10,8 @@ pub map_some : {X W : Type 0} (f : X → W) (o : Option X) (w : W) → option_ma
 map_some f None w is = absurd cc
 map_some f (Some x) w is = (x, refl, cc)
 
-pub pair_some : {W Y : Type 0} (first : Option W) (second : Option Y) (both : W × Y) → pair first second ≡ Some both → (first ≡ Some both.0) × (second ≡ Some both.1)
+pub pair_some : {W Y : Type 0} (first : Option W) (second : Option Y) (both : W × Y) → pair first second ≡ Some both
+    → (first ≡ Some both.0) × (second ≡ Some both.1)
 pair_some None second both is = absurd cc
 pair_some (Some w) None both is = absurd cc
 pair_some (Some w) (Some y) both is = (cc, cc)

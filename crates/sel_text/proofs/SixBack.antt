@@ -23,11 +23,21 @@ digit_is_hex d small = grind (arith, nat_tests)
 
 group_value : (group : ℕ) → group < 65536 → digits_value 16 (group_text group) ≡ group
 group_value group small =
-    rw (digit_value-digit_char (group / 4096) (omega arith), digit_value-digit_char (group / 256 % 16) (omega arith), digit_value-digit_char (group / 16 % 16) (omega arith), digit_value-digit_char (group % 16) (omega arith)) (omega arith)
+    rw (
+      digit_value-digit_char (group / 4096) (omega arith),
+      digit_value-digit_char (group / 256 % 16) (omega arith),
+      digit_value-digit_char (group / 16 % 16) (omega arith),
+      digit_value-digit_char (group % 16) (omega arith),
+    ) (omega arith)
 
 group_in-group_text : (group : ℕ) → group < 65536 → group_in (group_text group) ≡ Some group
 group_in-group_text group small =
-    rw (digit_is_hex (group / 4096) (omega arith), digit_is_hex (group / 256 % 16) (omega arith), digit_is_hex (group / 16 % 16) (omega arith), digit_is_hex (group % 16) (omega arith))
+    rw (
+      digit_is_hex (group / 4096) (omega arith),
+      digit_is_hex (group / 256 % 16) (omega arith),
+      digit_is_hex (group / 16 % 16) (omega arith),
+      digit_is_hex (group % 16) (omega arith),
+    )
     (ap Some (group_value group small))
 
 each-groups : (groups : List ℕ) → AllByRecursion (λ group. group < 65536) groups → each group_in (map group_text groups) ≡ Some groups
@@ -49,7 +59,8 @@ value-lowest_groups (suc n) address =
     let group = address / 65536 ^ n % 65536 in
     number_after_is 65536 (0 + group) (lowest_groups n address)
     ∙ rw (length-lowest_groups, value-lowest_groups n address, zero-add)
-    (sym (mod-mul address {m = 65536} {c = 65536 ^ n} (omega arith) (power_mono 65536 0 n (omega arith) (omega arith))) ∙ ap (λ (size : ℕ). address % size) (sym (pow-succ' 65536 n)))
+    (sym (mod-mul address {m = 65536} {c = 65536 ^ n} (omega arith) (power_mono 65536 0 n (omega arith) (omega arith)))
+    ∙ ap (λ (size : ℕ). address % size) (sym (pow-succ' 65536 n)))
 
 pub address_meaning-six : (address : ℕ) → address < 2 ^ 128 → address_meaning (six_text address) ≡ Ok (Six address)
 address_meaning-six address small =

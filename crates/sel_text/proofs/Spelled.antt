@@ -1,5 +1,6 @@
 -- The texts that spell IPv6 addresses are those that are read as addresses of IPv6.
-use Rattle.std.proofs.Common.{◌≡◌, ℕ, suc, ◌+◌, ◌-◌, ◌≤◌, Bool, true, false, not, ◌&&◌, ◌||◌, cond, leb, ltb, ◌==◌, List, [], ◌∷◌, ◌++◌, length, replicate, refl, sym, ap, subst, ◌∙◌, Option, Some, None, option_map, append_assoc, append-nil, Result, Ok, Err}
+use Rattle.std.proofs.Common.{◌≡◌, ℕ, suc, ◌+◌, ◌-◌, ◌≤◌, Bool, true, false, not, ◌&&◌, ◌||◌, cond, leb, ltb, ◌==◌, List, [], ◌∷◌, ◌++◌, length, replicate}
+use Rattle.std.proofs.Common.{refl, sym, ap, subst, ◌∙◌, Option, Some, None, option_map, append_assoc, append-nil, Result, Ok, Err}
 use Rattle.std.specs.List.{AllByRecursion, list_all, join_with_byte}
 use Rattle.std.specs.Char.{is_ascii_hexdigit}
 use Rattle.std.specs.Str.Parse.{digits_value}
@@ -7,8 +8,9 @@ use Rattle.std.proofs.lemmas.Bool.{and_parts, not-true, le-leb, leb-true, eq-eqb
 use Rattle.std.proofs.lemmas.List.Splits.{join_with_byte-slice_split}
 use Rattle.sel_text.specs.declared.address.Address.TheVariants.{Four, Six}
 use Rattle.sel_text.specs.declared.fault.TextFault.{TextFault}
-use Rattle.sel_text.specs.Four.{four_meaning}
-use Rattle.sel_text.specs.Fault.{bounded, mapped}
+use Rattle.sel_text.specs.inner.Reading.{four_meaning}
+use Rattle.sel_text.specs.Fault.{bounded}
+use Rattle.sel_text.proofs.Faults.{mapped}
 use Rattle.sel_text.specs.Parts.{parts, each, pair}
 use Rattle.sel_text.specs.Six.{is_group, group_in, groups_in, side_in, cut_double, all_eight, filled, eight_by, eight_in, address_of_groups}
 use Rattle.sel_text.specs.Address.{has_colon, address_meaning}
@@ -34,7 +36,8 @@ record AreRead (written : List (List ℕ)) (groups : List ℕ) : Type 0 where
   are : AreGroups written
   count : length written ≡ length groups
 
-read_more : (part : List ℕ) (written : List (List ℕ)) (group : ℕ) (rest groups : List ℕ) → group_in part ≡ Some group → group ∷ rest ≡ groups → AreRead written rest → AreRead (part ∷ written) groups
+read_more : (part : List ℕ) (written : List (List ℕ)) (group : ℕ) (rest groups : List ℕ) → group_in part ≡ Some group → group ∷ rest ≡ groups
+    → AreRead written rest → AreRead (part ∷ written) groups
 read_more part written group rest groups one same read =
     record { are = (group_in-some part group one, read.are); count = ap suc read.count ∙ ap length same }
 
@@ -61,11 +64,18 @@ joined_begins part (next ∷ written) text is =
     ap begins (append_assoc part (58 ∷ join_with_byte 58 (next ∷ written)) text) ∙ group_begins part ((58 ∷ join_with_byte 58 (next ∷ written)) ++ text) is
 
 -- groups have no `::` between them
-cut_double_joined : (part : List ℕ) (written : List (List ℕ)) (text : List ℕ) → AreGroups (part ∷ written) → cut_double (join_with_byte 58 (part ∷ written) ++ text) ≡ option_map (after (join_with_byte 58 (part ∷ written))) (cut_double text)
+cut_double_joined : (part : List ℕ) (written : List (List ℕ)) (text : List ℕ) → AreGroups (part ∷ written)
+    → cut_double (join_with_byte 58 (part ∷ written) ++ text) ≡ option_map (after (join_with_byte 58 (part ∷ written))) (cut_double text)
 cut_double_joined part [] text are = cut_double_lacks part text (group_lacks part are.0)
 cut_double_joined part (next ∷ written) text are =
     let more = join_with_byte 58 (next ∷ written) in
-    rw (append_assoc part (58 ∷ more) text, cut_double_lacks part (58 ∷ (more ++ text)) (group_lacks part are.0), cut_double_one (more ++ text) (joined_begins next written text are.1.0), cut_double_joined next written text are.1, after_after (58 ∷ []) more (cut_double text))
+    rw (
+      append_assoc part (58 ∷ more) text,
+      cut_double_lacks part (58 ∷ (more ++ text)) (group_lacks part are.0),
+      cut_double_one (more ++ text) (joined_begins next written text are.1.0),
+      cut_double_joined next written text are.1,
+      after_after (58 ∷ []) more (cut_double text),
+    )
     (after_after part (58 ∷ more) (cut_double text))
 
 -- groups joined by colons are cut into those groups
@@ -85,11 +95,12 @@ or-true : (b : Bool) → (b || true) ≡ true
 or-true true = refl
 or-true false = refl
 
-has_colon-after : (front back : List ℕ) → has_colon (front ++ 58 ∷ back) ≡ true
+has_colon-after : (prefix back : List ℕ) → has_colon (prefix ++ 58 ∷ back) ≡ true
 has_colon-after [] back = refl
-has_colon-after (byte ∷ front) back = rw (has_colon-after front back) (or-true (byte == 58))
+has_colon-after (byte ∷ prefix) back = rw (has_colon-after prefix back) (or-true (byte == 58))
 
-eight_in-whole : (written : List (List ℕ)) (groups : List ℕ) → each group_in written ≡ Some groups → length groups ≡ 8 → eight_in (join_with_byte 58 written) ≡ Some groups
+eight_in-whole : (written : List (List ℕ)) (groups : List ℕ) → each group_in written ≡ Some groups → length groups ≡ 8
+    → eight_in (join_with_byte 58 written) ≡ Some groups
 eight_in-whole [] groups is eight = absurd cc
 eight_in-whole (part ∷ written) groups is eight =
     let text = join_with_byte 58 (part ∷ written) in
@@ -102,16 +113,26 @@ whole_has_colon [] eight = absurd cc
 whole_has_colon (part ∷ []) eight = absurd cc
 whole_has_colon (part ∷ next ∷ written) eight = has_colon-after part (join_with_byte 58 (next ∷ written))
 
-cut_double_shortened : (before : List (List ℕ)) (back : List ℕ) → AreGroups before → cut_double (join_with_byte 58 before ++ (58 ∷ 58 ∷ back)) ≡ Some (join_with_byte 58 before, back)
+cut_double_shortened : (before : List (List ℕ)) (back : List ℕ) → AreGroups before
+    → cut_double (join_with_byte 58 before ++ (58 ∷ 58 ∷ back)) ≡ Some (join_with_byte 58 before, back)
 cut_double_shortened [] back are = cut_double_here back
 cut_double_shortened (part ∷ before) back are =
     rw (cut_double_joined part before (58 ∷ 58 ∷ back) are, cut_double_here back, append-nil (join_with_byte 58 (part ∷ before)))
 
-eight_in-shortened : (before written : List (List ℕ)) (first last : List ℕ) → each group_in before ≡ Some first → each group_in written ≡ Some last → length first + length last ≤ 7 → eight_in (join_with_byte 58 before ++ (58 ∷ 58 ∷ join_with_byte 58 written)) ≡ Some (first ++ (replicate (8 - (length first + length last)) 0 ++ last))
+eight_in-shortened : (before written : List (List ℕ)) (first last : List ℕ) → each group_in before ≡ Some first → each group_in written ≡ Some last
+    → length first + length last ≤ 7 → eight_in (join_with_byte 58 before ++ (58 ∷ 58 ∷ join_with_byte 58 written))
+    ≡ Some (first ++ (replicate (8 - (length first + length last)) 0 ++ last))
 eight_in-shortened before written first last one two few =
     let are = (each_read before first one).are in
     let also = (each_read written last two).are in
-    rw (cut_double_shortened before (join_with_byte 58 written) are, side_in_joined before are, side_in_joined written also, one, two, le-leb (length first + length last) 7 few)
+    rw (
+      cut_double_shortened before (join_with_byte 58 written) are,
+      side_in_joined before are,
+      side_in_joined written also,
+      one,
+      two,
+      le-leb (length first + length last) 7 few,
+    )
 
 meaning_of_eight : (text groups : List ℕ) → has_colon text ≡ true → eight_in text ≡ Some groups → address_meaning text ≡ Ok (Six (address_of_groups groups))
 meaning_of_eight text groups colon is =
@@ -119,7 +140,8 @@ meaning_of_eight text groups colon is =
 
 pub spelled_is_read : (text : List ℕ) (address : ℕ) → Spells text address → address_meaning text ≡ Ok (Six address)
 spelled_is_read _ _ (whole written groups is eight) =
-    meaning_of_eight (join_with_byte 58 written) groups (whole_has_colon written ((each_read written groups is).count ∙ eight)) (eight_in-whole written groups is eight)
+    meaning_of_eight (join_with_byte 58 written) groups (whole_has_colon written ((each_read written groups is).count
+    ∙ eight)) (eight_in-whole written groups is eight)
 spelled_is_read _ _ (shortened before written first last one two few) =
     meaning_of_eight (join_with_byte 58 before ++ (58 ∷ 58 ∷ join_with_byte 58 written)) (first ++ (replicate (8 - (length first + length last)) 0 ++ last))
     (has_colon-after (join_with_byte 58 before) (58 ∷ join_with_byte 58 written))
@@ -139,15 +161,18 @@ all_of sides = sides.0 ++ (replicate (8 - (length sides.0 + length sides.1)) 0 +
 filled_some : (sides : List ℕ × List ℕ) (groups : List ℕ) → filled sides ≡ Some groups → (length sides.0 + length sides.1 ≤ 7) × (all_of sides ≡ groups)
 filled_some sides groups is = by_test (leb (length sides.0 + length sides.1) 7) refl is
   where
-    by_test : (b : Bool) → leb (length sides.0 + length sides.1) 7 ≡ b → cond b (Some (all_of sides)) None ≡ Some groups → (length sides.0 + length sides.1 ≤ 7) × (all_of sides ≡ groups)
+    by_test : (b : Bool) → leb (length sides.0 + length sides.1) 7 ≡ b → cond b (Some (all_of sides)) None ≡ Some groups
+        → (length sides.0 + length sides.1 ≤ 7) × (all_of sides ≡ groups)
     by_test true few same = (leb-true (length sides.0 + length sides.1) 7 few, cc)
     by_test false few same = absurd cc
 
-side_is_joined : (text groups : List ℕ) → side_in text ≡ Some groups → (written : List (List ℕ)) × (join_with_byte 58 written ≡ text) × (each group_in written ≡ Some groups)
+side_is_joined : (text groups : List ℕ) → side_in text ≡ Some groups
+    → (written : List (List ℕ)) × (join_with_byte 58 written ≡ text) × (each group_in written ≡ Some groups)
 side_is_joined [] groups is = ([], refl, is)
 side_is_joined (byte ∷ more) groups is = (parts 58 (byte ∷ more), join_with_byte-slice_split 58 (byte ∷ more), is)
 
-spelled_by : (text : List ℕ) (sides : Option (List ℕ × List ℕ)) (groups : List ℕ) → Joins text sides → eight_by text sides ≡ Some groups → Spells text (address_of_groups groups)
+spelled_by : (text : List ℕ) (sides : Option (List ℕ × List ℕ)) (groups : List ℕ) → Joins text sides → eight_by text sides ≡ Some groups
+    → Spells text (address_of_groups groups)
 spelled_by text None groups joins is =
     let found = and_then_some all_eight (groups_in text) groups is in
     let same = all_eight_some found.0 groups found.2 in
@@ -163,7 +188,8 @@ spelled_by text (Some sides) groups joins is =
     (subst (λ eight. Spells (join_with_byte 58 before.0 ++ (58 ∷ 58 ∷ join_with_byte 58 written.0)) (address_of_groups eight)) same.1
     (shortened before.0 written.0 found.0.0 found.0.1 before.2 written.2 same.0))
 
-spelled_by_eight : (text : List ℕ) (address : ℕ) (eight : Option (List ℕ)) → eight_in text ≡ eight → mapped Six (bounded (λ groups. true) address_of_groups eight) ≡ Ok (Six address) → Spells text address
+spelled_by_eight : (text : List ℕ) (address : ℕ) (eight : Option (List ℕ)) → eight_in text ≡ eight
+    → mapped Six (bounded (λ groups. true) address_of_groups eight) ≡ Ok (Six address) → Spells text address
 spelled_by_eight text address None found is = absurd cc
 spelled_by_eight text address (Some groups) found is =
     let same : address_of_groups groups ≡ address = cc in

@@ -13,17 +13,3 @@ bounded fits value (Some written) = if fits written then Ok (value written) else
 abbrev pub fault_text : TextFault → Option (List ℕ)
 fault_text NotInGrammar = Some (codes "not in grammar")
 fault_text OutOfRange = Some (codes "out of range")
-
--- what two texts mean together: not in the grammar where either is not, else out of range where
--- either is
-abbrev pub both : {A B : Type 0} → Result A TextFault → Result B TextFault → Result (A × B) TextFault
-both (Err NotInGrammar) second = Err NotInGrammar
-both (Ok first) (Ok second) = Ok (first, second)
-both (Ok first) (Err fault) = Err fault
-both (Err OutOfRange) (Ok second) = Err OutOfRange
-both (Err OutOfRange) (Err fault) = Err fault
-
--- a meaning made of another
-abbrev pub mapped : {A B : Type 0} → (A → B) → Result A TextFault → Result B TextFault
-mapped make (Ok value) = Ok (make value)
-mapped make (Err fault) = Err fault

@@ -1,9 +1,7 @@
 -- IPv4 addresses, as texts write them.
-use Rattle.std.specs.Prelude.{ℕ, Bool, ◌==◌, List, length, Option, None, Result, if◌then◌else◌, nat_le}
+use Rattle.std.specs.Prelude.{ℕ, Bool, ◌==◌, List, length, Option, None, if◌then◌else◌, nat_le}
 use Rattle.std.specs.List.{list_all}
 use Rattle.std.specs.Int.Digits.{number_from_digits}
-use Rattle.sel_text.specs.declared.fault.TextFault.{TextFault}
-use Rattle.sel_text.specs.Fault.{bounded}
 use Rattle.sel_text.specs.Number.{number_in}
 use Rattle.sel_text.specs.Parts.{parts, each}
 
@@ -18,7 +16,3 @@ are_octets numbers = list_all (λ number. nat_le number 255) numbers
 -- the address that octets write, the first one highest
 abbrev pub address_of_octets : List ℕ → ℕ
 address_of_octets octets = number_from_digits 256 octets
-
--- what a text means as an IPv4 address
-abbrev pub four_meaning : List ℕ → Result ℕ TextFault
-four_meaning text = bounded are_octets address_of_octets (dotted_in text)

@@ -1,5 +1,6 @@
 -- Address items, as texts write them.
-use Rattle.std.specs.Prelude.{ℕ, ◌+◌, ◌-◌, ◌*◌, ◌/◌, ◌^◌, ◌≤◌, Bool, true, ◌&&◌, List, Option, Some, None, option_map, option_and_then, Result, bytes_eq, codes, nat_le, if◌then◌else◌}
+use Rattle.std.specs.Prelude.{ℕ, ◌+◌, ◌-◌, ◌*◌, ◌/◌, ◌^◌, ◌≤◌, Bool, true, ◌&&◌, List, Option, Some, None, option_map, option_and_then, Result, bytes_eq, codes}
+use Rattle.std.specs.Prelude.{nat_le, if◌then◌else◌}
 use Rattle.sel_text.specs.declared.address.Address.{Address}
 use Rattle.sel_text.specs.declared.address.Address.TheVariants.{Four, Six}
 use Rattle.sel_text.specs.declared.fault.TextFault.{TextFault}
@@ -84,9 +85,9 @@ abbrev pub item_meaning : List ℕ → Result AddressItem TextFault
 item_meaning text = bounded item_fits item_of (item_in text)
 
 -- a range of one family with its first address not above its last
-abbrev pub IsInOrder : AddressItem → Type 0
-IsInOrder Any = Unit {0}
-IsInOrder (Range (Four first) (Four last)) = first ≤ last
-IsInOrder (Range (Four first) (Six last)) = ⊥
-IsInOrder (Range (Six first) (Four last)) = ⊥
-IsInOrder (Range (Six first) (Six last)) = first ≤ last
+abbrev pub AreAddressesInOrder : AddressItem → Type 0
+AreAddressesInOrder Any = Unit {0}
+AreAddressesInOrder (Range (Four first) (Four last)) = first ≤ last
+AreAddressesInOrder (Range (Four first) (Six last)) = ⊥
+AreAddressesInOrder (Range (Six first) (Four last)) = ⊥
+AreAddressesInOrder (Range (Six first) (Six last)) = first ≤ last

@@ -1,12 +1,14 @@
 pub mod Address
+pub mod Family
 pub mod Fault
 pub mod Four
 pub mod Item
+pub mod Lines
 pub mod Name
 pub mod Number
 pub mod Parts
 pub mod Port
-pub mod Reading
 pub mod Six
 pub mod Spelling
 pub mod Text
+pub mod inner

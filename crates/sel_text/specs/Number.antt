@@ -6,7 +6,7 @@ use Rattle.std.specs.Str.Parse.{digits_value}
 use Rattle.sel_text.specs.declared.fault.TextFault.{TextFault}
 use Rattle.sel_text.specs.Fault.{bounded}
 
--- whether a digit may stand in front of more digits: all but `0`
+-- whether a digit may stand before more digits: all but `0`
 abbrev pub leads : ℕ → List ℕ → Bool
 leads digit [] = true
 leads digit (next ∷ more) = not (digit == 48)

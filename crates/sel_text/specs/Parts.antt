@@ -1,5 +1,6 @@
 -- A text cut at separators.
 use Rattle.std.specs.Prelude.{ℕ, ◌+◌, ◌==◌, List, [], ◌∷◌, take, drop, position, Option, Some, None, option_map, option_and_then}
+use Rattle.std.specs.Borrow.{Bor}
 use Rattle.std.specs.List.{slice_split}
 
 -- what stands before a place and after it
@@ -9,6 +10,10 @@ around text at = (take at text, drop (at + 1) text)
 -- what stands before the first separator and after it, if there is one
 abbrev pub cut : ℕ → List ℕ → Option (List ℕ × List ℕ)
 cut separator text = option_map (around text) (position (λ byte. byte == separator) text)
+
+-- two texts that are lent
+abbrev pub halves_now : Bor (List ℕ) × Bor (List ℕ) → List ℕ × List ℕ
+halves_now texts = (texts.0.now, texts.1.now)
 
 -- what stands between separators, in order: one part more than there are separators
 abbrev pub parts : ℕ → List ℕ → List (List ℕ)

@@ -53,6 +53,10 @@ is_type_code value = nat_le value.0 255 && nat_le value.1 255
 abbrev pub type_code_value : ℕ × ℕ → ℕ
 type_code_value value = 256 * value.0 + value.1
 
+-- what the two sides of a `/` mean as a type and a code
+unfoldable pub type_code_meaning : List ℕ → List ℕ → Result ℕ TextFault
+type_code_meaning type code = bounded is_type_code type_code_value (type_code_in (type, code))
+
 -- whether each number is within its bound, and the first value not above the last
 abbrev pub port_fits : WrittenPort → Bool
 port_fits any = true
@@ -74,8 +78,8 @@ abbrev pub port_meaning : List ℕ → Result PortItem TextFault
 port_meaning text = bounded port_fits port_of (port_in text)
 
 -- a range with its first value not above its last
-abbrev pub IsInOrder : PortItem → Type 0
-IsInOrder Any = Unit {0}
-IsInOrder Opaque = Unit {0}
-IsInOrder (Number first last) = first ≤ last
-IsInOrder (TypeCode first last) = first ≤ last
+abbrev pub ArePortsInOrder : PortItem → Type 0
+ArePortsInOrder Any = Unit {0}
+ArePortsInOrder Opaque = Unit {0}
+ArePortsInOrder (Number first last) = first ≤ last
+ArePortsInOrder (TypeCode first last) = first ≤ last

@@ -1,11 +1,10 @@
 -- IPv6 addresses, as texts write them (RFC 4291 section 2.2, forms 1 and 2).
-use Rattle.std.specs.Prelude.{ℕ, ◌+◌, ◌-◌, Bool, true, ◌&&◌, ◌==◌, List, [], ◌∷◌, ◌++◌, length, take, drop, replicate, zip, position, Option, Some, None, option_map, option_and_then, Result, nat_lt, nat_le, if◌then◌else◌}
+use Rattle.std.specs.Prelude.{ℕ, ◌+◌, ◌-◌, Bool, ◌&&◌, ◌==◌, List, [], ◌∷◌, ◌++◌, length, take, drop, replicate, zip, position, Option, Some, None}
+use Rattle.std.specs.Prelude.{option_map, option_and_then, nat_lt, nat_le, if◌then◌else◌}
 use Rattle.std.specs.List.{list_all}
 use Rattle.std.specs.Char.{is_ascii_hexdigit}
 use Rattle.std.specs.Str.Parse.{digits_value}
 use Rattle.std.specs.Int.Digits.{number_from_digits}
-use Rattle.sel_text.specs.declared.fault.TextFault.{TextFault}
-use Rattle.sel_text.specs.Fault.{bounded}
 use Rattle.sel_text.specs.Parts.{parts, each, pair}
 
 -- one to four hexadecimal digits, of either case
@@ -55,7 +54,3 @@ eight_in text = eight_by text (cut_double text)
 -- the address that eight groups write, the first one highest
 abbrev pub address_of_groups : List ℕ → ℕ
 address_of_groups groups = number_from_digits 65536 groups
-
--- what a text means as an IPv6 address, whose groups pass no bound
-abbrev pub six_meaning : List ℕ → Result ℕ TextFault
-six_meaning text = bounded (λ groups. true) address_of_groups (eight_in text)

@@ -1,5 +1,5 @@
 ghost use Rattle.std.specs.Prelude.{◌≡◌};
-ghost use Rattle.sel_text.specs.Fault.{both};
+ghost use Rattle.sel_text.specs.inner.Reading.{both};
 
 use std::error::Error;
 use std::fmt;
@@ -29,9 +29,9 @@ impl fmt::Display for TextFault {
 
 impl Error for TextFault {}
 
-/// What two texts mean together: `NotInGrammar` where either is not, else `OutOfRange` where
-/// either is.
-pub(crate) fn both<A: Copy, B: Copy>(
+// What two texts mean together: `NotInGrammar` where either is not, else `OutOfRange` where
+// either is.
+pub fn both<A: Copy, B: Copy>(
     first: Result<A, TextFault>,
     second: Result<B, TextFault>,
 ) -> Result<(A, B), TextFault>

@@ -1,6 +1,7 @@
 ghost use Rattle.std.specs.Prelude.{◌≡◌, ◌+◌, ◌-◌, ◌^◌, ◌<◌, ◌≤◌};
 ghost use Rattle.sel_text.specs.Item.{lowest, highest, item_meaning};
-ghost use Rattle.sel_text.specs.Reading.{prefix_meaning, range_meaning, four_prefix, six_prefix, addresses_in_order};
+ghost use Rattle.sel_text.specs.inner.Reading.{prefix_meaning, range_meaning, four_prefix};
+ghost use Rattle.sel_text.specs.inner.Reading.{six_prefix, addresses_in_order};
 
 use crate::address::{Address, has_colon, read_address};
 use crate::fault::{TextFault, both};
@@ -25,7 +26,7 @@ pub enum AddressItem {
 /// It is `OutOfRange` where a text of one of these forms has a larger number or prefix length or a
 /// first address above the last, and `NotInGrammar` at every other text that is refused. Takes no
 /// memory, and time in proportion to the text.
-#[tactic(auto, unfolding(crate::specs::Reading::prefix_meaning, crate::specs::Reading::range_meaning))]
+#[tactic(auto, unfolding(crate::specs::inner::Reading::prefix_meaning, crate::specs::inner::Reading::range_meaning))]
 pub fn read_addresses(text: &[u8]) -> Result<AddressItem, TextFault>
     ensures { result ≡ item_meaning text.now }
 {
@@ -41,7 +42,7 @@ pub fn read_addresses(text: &[u8]) -> Result<AddressItem, TextFault>
     }
 }
 
-/// All addresses that begin as one does.
+// All addresses that begin as one does.
 fn read_prefix(address: &[u8], length: &[u8]) -> Result<AddressItem, TextFault>
     ensures { result ≡ prefix_meaning address.now length.now }
 {
@@ -78,7 +79,7 @@ fn prefix_of_six(address: u128, length: u8) -> AddressItem
     }
 }
 
-/// The lowest and the highest number that agree with an address in all but its host bits.
+// The lowest and the highest number that agree with an address in all but its host bits.
 fn ends_of_prefix(address: u128, host_bits: u32) -> (u128, u128)
     requires { host_bits ≤ 128 }
     ensures { result ≡ (lowest address host_bits, highest address host_bits) }
@@ -88,7 +89,7 @@ fn ends_of_prefix(address: u128, host_bits: u32) -> (u128, u128)
     (first, first + host)
 }
 
-/// The greatest number of so many bits.
+// The greatest number of so many bits.
 fn greatest_of(bits: u32) -> u128
     requires { bits ≤ 128 }
     ensures { result ≡ 2 ^ bits - 1 }
@@ -100,7 +101,7 @@ fn greatest_of(bits: u32) -> u128
     }
 }
 
-/// From one address to another of its family.
+// From one address to another of its family.
 fn read_range(first: &[u8], last: &[u8]) -> Result<AddressItem, TextFault>
     ensures { result ≡ range_meaning first.now last.now }
 {
@@ -111,7 +112,7 @@ fn read_range(first: &[u8], last: &[u8]) -> Result<AddressItem, TextFault>
     }
 }
 
-/// The range between two addresses of one family, if the first is not above the last.
+// The range between two addresses of one family, if the first is not above the last.
 fn in_order(ends: Result<(Address, Address), TextFault>) -> Result<AddressItem, TextFault>
     ensures { result ≡ addresses_in_order ends }
 {

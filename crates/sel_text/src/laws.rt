@@ -1,11 +1,13 @@
 //! What the definitions of texts come to, each law the contract of a function that does nothing.
 ghost use Rattle.std.specs.Prelude.{◌≡◌, ◌<◌, ◌≤◌, ◌/◌, ◌^◌, ◌↔◌, ℕ, List, Ok, decimal};
+ghost use Rattle.std.specs.List.{concat};
 ghost use Rattle.sel_text.specs.declared.address.Address.{Address};
 ghost use Rattle.sel_text.specs.declared.address.Address.TheVariants.{Four, Six};
 ghost use Rattle.sel_text.specs.declared.item.AddressItem.{AddressItem};
 ghost use Rattle.sel_text.specs.declared.port.PortItem.{PortItem};
 ghost use Rattle.sel_text.specs.Address.{IsAddress, address_meaning};
 ghost use Rattle.sel_text.specs.Item as item;
+ghost use Rattle.sel_text.specs.Lines.{lines_of};
 ghost use Rattle.sel_text.specs.Name.{name_meaning};
 ghost use Rattle.sel_text.specs.Number.{number_meaning};
 ghost use Rattle.sel_text.specs.Port as port;
@@ -50,7 +52,7 @@ pub fn names_are_their_texts()
 /// An address item that is read is of one family and in order.
 pub fn address_items_are_in_order()
     ensures { (text : List ℕ) (read : AddressItem) → item.item_meaning text ≡ Ok read
-        → item.IsInOrder read }
+        → item.AreAddressesInOrder read }
 {}
 
 /// From the lowest to the highest address of a prefix are the numbers that agree in all but the
@@ -64,5 +66,10 @@ pub fn prefixes_hold_what_agrees()
 /// A port item that is read is in order.
 pub fn port_items_are_in_order()
     ensures { (text : List ℕ) (read : PortItem) → port.port_meaning text ≡ Ok read
-        → port.IsInOrder read }
+        → port.ArePortsInOrder read }
+{}
+
+/// The lines of a text, one after another, are the text.
+pub fn lines_are_the_text()
+    ensures { (text : List ℕ) → concat (lines_of text) ≡ text }
 {}

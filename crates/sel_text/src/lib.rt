@@ -2,16 +2,19 @@
 #![tactic(auto)]
 
 pub use address::{Address, read_address};
+pub use family::Family;
 pub use fault::TextFault;
 pub use item::{AddressItem, read_addresses};
 pub use lists::NoMemory;
 pub use name::{Name, read_name};
-pub use number::read_number;
-pub use port::{PortItem, read_port};
+pub use number::{read_byte, read_number};
+pub use parts::{place_of, split_once};
+pub use port::{PortItem, read_port, read_type_code};
 pub use print::{print_address, print_number};
 
 mod address;
 mod address_text;
+mod family;
 mod fault;
 mod four;
 mod item;

@@ -59,7 +59,7 @@ pub fn read_name(text: &[u8]) -> Result<Name, TextFault>
     })
 }
 
-/// The bytes, and then zeros.
+// The bytes, and then zeros.
 fn padded(text: &[u8]) -> [u8; Name::LONGEST]
     requires { length text.now ≤ Name.LONGEST }
     ensures { result ≡ padded text.now }
@@ -69,7 +69,7 @@ fn padded(text: &[u8]) -> [u8; Name::LONGEST]
     bytes
 }
 
-/// Whether a name may have each of the bytes.
+// Whether a name may have each of the bytes.
 fn are_name_bytes(text: &[u8]) -> bool
     ensures { result ≡ list_all is_name_byte text.now }
 {

@@ -6,7 +6,7 @@ ghost use Rattle.sel_text.specs.Number.{is_number, number_meaning};
 
 use crate::fault::TextFault;
 
-/// As many decimal digits as fit 64 bits, whatever they are.
+// As many decimal digits as fit 64 bits, whatever they are.
 const WORD_DIGITS: usize = 19;
 
 /// Reads a decimal number of at most `most`: one or more digits, with no leading zero unless the
@@ -25,16 +25,14 @@ pub fn read_number(text: &[u8], most: u128) -> Result<u128, TextFault>
 }
 
 /// Reads a number of at most `most`, as `read_number` does.
-pub(crate) fn read_byte(text: &[u8], most: u8) -> Result<u8, TextFault>
+pub fn read_byte(text: &[u8], most: u8) -> Result<u8, TextFault>
     ensures { result ≡ number_meaning most text.now }
 {
-    match read_number(text, u128::from(most)) {
-        Ok(number) => Ok(number as u8),
-        Err(fault) => Err(fault),
-    }
+    let number = read_number(text, u128::from(most))?;
+    Ok(number as u8)
 }
 
-/// Whether the text is a number of any size.
+// Whether the text is a number of any size.
 fn is_number_text(text: &[u8]) -> bool
     ensures { result ≡ is_number text.now }
 {
@@ -45,14 +43,14 @@ fn is_number_text(text: &[u8]) -> bool
     }
 }
 
-/// Whether each byte is a decimal digit.
+// Whether each byte is a decimal digit.
 fn are_digits(text: &[u8]) -> bool
     ensures { result ≡ list_all is_ascii_digit text.now }
 {
     text.iter().all(u8::is_ascii_digit)
 }
 
-/// The number that digits write, if 128 bits hold it.
+// The number that digits write, if 128 bits hold it.
 fn value_of(digits: &[u8]) -> Option<u128>
     requires { IsTrue (list_all is_ascii_digit digits.now) }
     ensures { SomeIff result (digits_value 10 digits.now < 2 ^ 128) (digits_value 10 digits.now) }
@@ -61,7 +59,7 @@ fn value_of(digits: &[u8]) -> Option<u128>
     value_after(u128::from(word_value(word)), rest)
 }
 
-/// The number that digits write when they follow those of a number, if 128 bits hold it.
+// The number that digits write when they follow those of a number, if 128 bits hold it.
 fn value_after(number: u128, digits: &[u8]) -> Option<u128>
     requires { IsTrue (list_all is_ascii_digit digits.now) }
     ensures { SomeIff result (digits_value_after 10 number digits.now < 2 ^ 128)
@@ -76,7 +74,7 @@ fn value_after(number: u128, digits: &[u8]) -> Option<u128>
     Some(value)
 }
 
-/// The number that at most nineteen digits write.
+// The number that at most nineteen digits write.
 fn word_value(digits: &[u8]) -> u64
     requires few { length digits.now ≤ WORD_DIGITS }
     requires digits { IsTrue (list_all is_ascii_digit digits.now) }

@@ -1,14 +1,14 @@
 ghost use Rattle.std.specs.Prelude.{◌≡◌, ◌+◌, ◌*◌};
 ghost use Rattle.sel_text.specs.declared.port.PortItem.TheVariants.{TypeCode};
-ghost use Rattle.sel_text.specs.Port.{port_meaning};
-ghost use Rattle.sel_text.specs.Reading.{in_order, type_code_meaning, value_meaning, span_meaning};
+ghost use Rattle.sel_text.specs.Port.{port_meaning, type_code_meaning};
+ghost use Rattle.sel_text.specs.inner.Reading.{in_order, value_meaning, span_meaning};
 ghost use Rattle.sel_text.specs.Number.{number_meaning};
 
 use crate::fault::{TextFault, both};
 use crate::number::{read_byte, read_number};
 use crate::parts::{ANY, split_once};
 
-/// The word for OPAQUE alone.
+// The word for OPAQUE alone.
 const OPAQUE: &[u8] = b"opaque";
 
 /// Ports of a selector, or its types and codes of ICMP, with the first value not above the last.
@@ -45,7 +45,7 @@ pub fn read_port(text: &[u8]) -> Result<PortItem, TextFault>
     }
 }
 
-/// One value, or all codes of a type.
+// One value, or all codes of a type.
 #[tactic(auto, using(crate::proofs::Ports::value_lemmas))]
 fn read_value(text: &[u8]) -> Result<PortItem, TextFault>
     ensures { result ≡ value_meaning text.now }
@@ -60,7 +60,7 @@ fn read_value(text: &[u8]) -> Result<PortItem, TextFault>
     }
 }
 
-/// From one value to another of the same form.
+// From one value to another of the same form.
 #[tactic(auto, using(crate::proofs::Ports::span_lemmas))]
 fn read_span(first: &[u8], last: &[u8]) -> Result<PortItem, TextFault>
     ensures { result ≡ span_meaning first.now last.now }
@@ -79,7 +79,7 @@ fn read_span(first: &[u8], last: &[u8]) -> Result<PortItem, TextFault>
     }
 }
 
-/// Refuses a first value above the last.
+// Refuses a first value above the last.
 fn in_order(ends: Result<(u16, u16), TextFault>) -> Result<(u16, u16), TextFault>
     ensures { result ≡ in_order ends }
 {
@@ -89,7 +89,7 @@ fn in_order(ends: Result<(u16, u16), TextFault>) -> Result<(u16, u16), TextFault
     }
 }
 
-/// Every code of a type.
+// Every code of a type.
 fn all_codes(kind: u8) -> PortItem
     ensures { result ≡ TypeCode (256 * kind) (256 * kind + 255) }
 {
@@ -99,9 +99,10 @@ fn all_codes(kind: u8) -> PortItem
     }
 }
 
-/// The value of a type and a code.
+/// Reads a type and a code, each a number of at most 255, as 256 times the type plus the code. It
+/// is `NotInGrammar` where either is no number, else `OutOfRange` where either is larger.
 #[tactic(auto, using(crate::proofs::Ports::type_code_by_bytes))]
-fn read_type_code(kind: &[u8], code: &[u8]) -> Result<u16, TextFault>
+pub fn read_type_code(kind: &[u8], code: &[u8]) -> Result<u16, TextFault>
     ensures { result ≡ type_code_meaning kind.now code.now }
 {
     both(read_byte(kind, u8::MAX), read_byte(code, u8::MAX)).map(|(kind, code)| u16::from_be_bytes([
@@ -112,8 +113,6 @@ fn read_type_code(kind: &[u8], code: &[u8]) -> Result<u16, TextFault>
 fn read_port_number(text: &[u8]) -> Result<u16, TextFault>
     ensures { result ≡ number_meaning 65535 text.now }
 {
-    match read_number(text, u128::from(u16::MAX)) {
-        Ok(number) => Ok(number as u16),
-        Err(fault) => Err(fault),
-    }
+    let number = read_number(text, u128::from(u16::MAX))?;
+    Ok(number as u16)
 }

@@ -1,12 +1,15 @@
 ghost use Rattle.std.specs.Prelude.{◌≡◌, ◌+◌, ◌≤◌, length, option_map, IfSome};
-ghost use Rattle.sel_text.specs.Six.{group_in, double_place, cut_double, six_meaning};
-ghost use Rattle.sel_text.specs.Reading.{with_group, all_groups, joined_groups, counted_groups, counted_side, address_by, halves_now};
+ghost use Rattle.sel_text.specs.Six.{group_in, double_place, cut_double};
+ghost use Rattle.sel_text.specs.inner.Reading.{six_meaning};
+ghost use Rattle.sel_text.specs.inner.Reading.{with_group, all_groups, joined_groups};
+ghost use Rattle.sel_text.specs.inner.Reading.{counted_groups, counted_side, address_by};
+ghost use Rattle.sel_text.specs.Parts.{halves_now};
 
 use crate::fault::TextFault;
 use crate::parts::split_once;
 use std::marker::Model;
 
-/// Some groups of an address as one number, and how many they are. A contract sees the pair.
+// Some groups of an address as one number, and how many they are. A contract sees the pair.
 #[derive(Clone, Copy)]
 struct Groups {
     value: u128,
@@ -32,14 +35,14 @@ impl Groups {
         Groups { value: 0, count: 0 }
     }
 
-    /// The address, if these are all its groups.
+    // The address, if these are all its groups.
     fn all(self) -> Option<u128>
         ensures { result ≡ all_groups self }
     {
         (self.count == 8).then_some(self.value)
     }
 
-    /// The address with these groups before `::` and others after it, if that leaves a group to it.
+    // The address with these groups before `::` and others after it, if that leaves a group to it.
     fn joined(self, after: Groups) -> Option<u128>
         ensures { result ≡ joined_groups self after }
     {
@@ -51,7 +54,7 @@ impl Groups {
         Some(before + after.value)
     }
 
-    /// These groups and one more, if it is a group and there is room.
+    // These groups and one more, if it is a group and there is room.
     fn with_group(self, text: &[u8]) -> Option<Groups>
         ensures { result ≡ with_group self (group_in text.now) }
     {
@@ -66,17 +69,17 @@ impl Groups {
     }
 }
 
-/// Reads an IPv6 address: eight groups of one to four hexadecimal digits with `:` between them, or
-/// at most seven and one `::` that stands for zero groups (RFC 4291 section 2.2). No text of it is
-/// `OutOfRange`.
+// Reads an IPv6 address: eight groups of one to four hexadecimal digits with `:` between them, or
+// at most seven and one `::` that stands for zero groups (RFC 4291 section 2.2). No text of it is
+// `OutOfRange`.
 #[tactic(auto, using(crate::proofs::Sides::six_meaning_by_sides))]
-pub(crate) fn read_six(text: &[u8]) -> Result<u128, TextFault>
+pub fn read_six(text: &[u8]) -> Result<u128, TextFault>
     ensures { result ≡ six_meaning text.now }
 {
     address_of(text).ok_or(TextFault::NotInGrammar)
 }
 
-/// The address that a text writes, if it writes one.
+// The address that a text writes, if it writes one.
 fn address_of(text: &[u8]) -> Option<u128>
     ensures { result ≡ address_by text.now (cut_double text.now) }
 {
@@ -86,7 +89,7 @@ fn address_of(text: &[u8]) -> Option<u128>
     }
 }
 
-/// The groups on one side of `::`, where there may be none.
+// The groups on one side of `::`, where there may be none.
 fn read_side(text: &[u8]) -> Option<Groups>
     ensures { result ≡ counted_side text.now }
 {
@@ -97,7 +100,7 @@ fn read_side(text: &[u8]) -> Option<Groups>
     }
 }
 
-/// What stands before the first `::` and after it, if there is one.
+// What stands before the first `::` and after it, if there is one.
 fn split_at_double(text: &[u8]) -> Option<(&[u8], &[u8])>
     ensures { option_map halves_now result ≡ cut_double text.now }
 {
@@ -105,7 +108,7 @@ fn split_at_double(text: &[u8]) -> Option<(&[u8], &[u8])>
     Some((&text[..at], &text[at + 2..]))
 }
 
-/// The index of the first `::`.
+// The index of the first `::`.
 fn place_of_double(text: &[u8]) -> Option<usize>
     ensures place { result ≡ double_place text.now }
     ensures within { IfSome result (λ at. at + 2 ≤ length text.now) }
@@ -115,7 +118,7 @@ fn place_of_double(text: &[u8]) -> Option<usize>
         .position(|(byte, next)| *byte == b':' && *next == b':')
 }
 
-/// Groups with `:` between them, at most eight.
+// Groups with `:` between them, at most eight.
 fn read_groups(text: &[u8]) -> Option<Groups>
     ensures { result ≡ counted_groups text.now }
 {
@@ -128,7 +131,7 @@ fn read_groups(text: &[u8]) -> Option<Groups>
     groups.with_group(rest)
 }
 
-/// One to four hexadecimal digits.
+// One to four hexadecimal digits.
 fn read_group(text: &[u8]) -> Option<u16>
     ensures { result ≡ group_in text.now }
 {

@@ -1,6 +1,6 @@
 use Rattle.std.proofs.Common.{◌≡◌, length, option_and_then}
 use Rattle.sel_text.specs.Six.{groups_in}
-use Rattle.sel_text.specs.Reading.{counted_groups}
+use Rattle.sel_text.specs.inner.Reading.{counted_groups}
 use Rattle.sel_text.proofs.Groups.{counted_after}
 use Rattle.sel_text.proofs.six.read_groups.Given as goal
 

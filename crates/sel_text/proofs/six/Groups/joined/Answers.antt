@@ -5,7 +5,11 @@ use Rattle.sel_text.proofs.six.Groups.joined.Goals as goal
 
 pub overflow_add-result : goal.overflow_add-result
 overflow_add-result c =
-    omega (arith, joined_shift c.self.inside.value c.self.inside.count (omega arith) c.self.invariant.1, joined_fits c.self.inside.value c.self.inside.count c.after.inside.value c.after.inside.count (omega arith) c.self.invariant.1 c.after.invariant.1)
+    omega (
+      arith,
+      joined_shift c.self.inside.value c.self.inside.count (omega arith) c.self.invariant.1,
+      joined_fits c.self.inside.value c.self.inside.count c.after.inside.value c.after.inside.count (omega arith) c.self.invariant.1 c.after.invariant.1,
+    )
 
 pub returns : goal.returns
 returns c =

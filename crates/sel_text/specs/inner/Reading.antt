@@ -1,7 +1,8 @@
--- What steps of the readers give. No public clause cites these.
-use Rattle.std.specs.Prelude.{ℕ, Bool, true, false, ◌+◌, ◌-◌, ◌*◌, ◌^◌, ◌==◌, nat_lt, List, length, Option, Some, None, option_map, option_and_then, Result, Ok, Err, nat_le, if◌then◌else◌}
+-- What steps of the readers give.
+use Rattle.std.specs.Prelude.{ℕ, Bool, true, false, ◌+◌, ◌-◌, ◌*◌, ◌^◌, ◌==◌, nat_lt, List, length, Option, Some, None, option_map, option_and_then, Result, Ok}
+use Rattle.std.specs.Prelude.{Err, nat_le, if◌then◌else◌}
 use Rattle.sel_text.specs.declared.fault.TextFault.{TextFault}
-use Rattle.sel_text.specs.declared.fault.TextFault.TheVariants.{OutOfRange}
+use Rattle.sel_text.specs.declared.fault.TextFault.TheVariants.{NotInGrammar, OutOfRange}
 use Rattle.sel_text.specs.declared.port.PortItem.{PortItem}
 use Rattle.sel_text.specs.declared.item.AddressItem.{AddressItem}
 use Rattle.sel_text.specs.Fault.{bounded}
@@ -11,15 +12,22 @@ use Rattle.sel_text.specs.Item.{prefix, range_in, item_fits, item_of, lowest, hi
 use Rattle.sel_text.specs.declared.item.AddressItem.TheVariants.{Range}
 use Rattle.sel_text.specs.declared.address.Address.{Address}
 use Rattle.sel_text.specs.declared.address.Address.TheVariants.{Four, Six}
-use Rattle.sel_text.specs.Port.{is_type_code, type_code_value, type_code_in, value_by, span_by, port_fits, port_of}
+use Rattle.sel_text.specs.Port.{value_by, span_by, port_fits, port_of}
 use Rattle.std.specs.Borrow.{Bor}
-use Rattle.sel_text.specs.Parts.{cut, pair}
-use Rattle.sel_text.specs.Six.{address_of_groups, groups_in, side_in}
+use Rattle.sel_text.specs.Parts.{cut, pair, halves_now}
+use Rattle.sel_text.specs.Four.{dotted_in, are_octets, address_of_octets}
+use Rattle.sel_text.specs.Six.{address_of_groups, eight_in, groups_in, side_in}
 
--- texts that are lent
-abbrev pub halves_now : Bor (List ℕ) × Bor (List ℕ) → List ℕ × List ℕ
-halves_now texts = (texts.0.now, texts.1.now)
+-- what two texts mean together: not in the grammar where either is not, else out of range where
+-- either is
+abbrev pub both : {A B : Type 0} → Result A TextFault → Result B TextFault → Result (A × B) TextFault
+both (Err NotInGrammar) second = Err NotInGrammar
+both (Ok first) (Ok second) = Ok (first, second)
+both (Ok first) (Err fault) = Err fault
+both (Err OutOfRange) (Ok second) = Err OutOfRange
+both (Err OutOfRange) (Err fault) = Err fault
 
+-- four texts that are lent
 abbrev pub quarters_now : (Bor (List ℕ) × Bor (List ℕ)) × (Bor (List ℕ) × Bor (List ℕ)) → (List ℕ × List ℕ) × (List ℕ × List ℕ)
 quarters_now texts = (halves_now texts.0, halves_now texts.1)
 
@@ -35,10 +43,6 @@ quarters text = do
     ◌>>=◌ : {A B : Type 0} → Option A → (A → Option B) → Option B
     o >>= f = option_and_then f o
 
--- what the two sides of a `/` mean as a type and a code
-unfoldable pub type_code_meaning : List ℕ → List ℕ → Result ℕ TextFault
-type_code_meaning type code = bounded is_type_code type_code_value (type_code_in (type, code))
-
 -- ends that are in order
 abbrev pub in_order : Result (ℕ × ℕ) TextFault → Result (ℕ × ℕ) TextFault
 in_order (Ok ends) = if nat_le ends.0 ends.1 then Ok ends else Err OutOfRange
@@ -51,6 +55,14 @@ value_meaning text = bounded port_fits port_of (value_by text (cut 47 text))
 -- what the two sides of a `-` mean as a port item
 abbrev pub span_meaning : List ℕ → List ℕ → Result PortItem TextFault
 span_meaning first last = bounded port_fits port_of (span_by (first, last) (cut 47 first) (cut 47 last))
+
+-- what a text means as an IPv4 address
+abbrev pub four_meaning : List ℕ → Result ℕ TextFault
+four_meaning text = bounded are_octets address_of_octets (dotted_in text)
+
+-- what a text means as an IPv6 address, whose groups pass no bound
+abbrev pub six_meaning : List ℕ → Result ℕ TextFault
+six_meaning text = bounded (λ groups. true) address_of_groups (eight_in text)
 
 -- groups as one number, and how many they are, if they are at most eight
 abbrev pub counted : List ℕ → Option (ℕ × ℕ)

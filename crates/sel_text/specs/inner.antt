@@ -1,0 +1,2 @@
+-- What the steps of the readers give. No public clause cites these.
+pub mod Reading
