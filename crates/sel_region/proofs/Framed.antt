@@ -15,7 +15,10 @@ both_with (Some r) (Some s) common is some = (s, ap (λ o. both o (Some s)) is)
 
 -- where the pieces of the first part come into their frame, and after them those of the second, all
 -- pieces of the pair have come into the frame round it
-pub map-pair_minus : {R S W : Type 0} (around : Pair R S → W) (meet_first : R → R → Option R) (meet_second : S → S → Option S) (minus_first : R → R → List R) (minus_second : S → S → List S) (a b : Pair R S) (common : R) (before between after : List W) →
+pub map-pair_minus : {R S W : Type 0} (around : Pair R S → W)
+    (meet_first : R → R → Option R) (meet_second : S → S → Option S)
+    (minus_first : R → R → List R) (minus_second : S → S → List S)
+    (a b : Pair R S) (common : R) (before between after : List W) →
     meet_first a.first b.first ≡ Some common →
     IsSome (pair_meet meet_first meet_second a b) →
     between ≡ before ++ map (λ piece. around (pair_of piece a.second)) (minus_first a.first b.first) →

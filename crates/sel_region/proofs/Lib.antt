@@ -1,2 +1,5 @@
+pub mod CutLists
+pub mod CutPoints
 pub mod Framed
+pub mod Loops
 pub mod Regions

@@ -1,9 +1,8 @@
 -- What follows from the laws of a kind of region.
-use Rattle.std.proofs.Common.{◌≡◌, ℕ, ◌+◌, Bool, true, false, not, ◌&&◌, cond, List, [], ◌∷◌, Option, Some, None, ◌↔◌, MatchBool, flat_map, sym, refl, ap, ◌∙◌, arith}
+use Rattle.std.proofs.Common.{◌≡◌, ◌+◌, Bool, true, false, not, ◌&&◌, List, [], ◌∷◌, Option, Some, None, ◌↔◌, MatchBool, sym, refl, ap, ◌∙◌, arith}
 use Rattle.std.proofs.Math.Bool.{and_comm}
 use Rattle.std.proofs.lemmas.Bool.{both_ways, and_parts}
 use Rattle.sel_region.specs.Region.{one_if, hits, some_has, AllInside, SomeOutside, IsRegion}
-use Rattle.sel_region.specs.RegionLemmas.{hits-append}
 
 and_absorb : (x y : Bool) → (x ≡ true → y ≡ true) → (x && y) ≡ x
 and_absorb true y h = h refl
@@ -81,20 +80,3 @@ module _ {R P : Type 0}
 
     pub minus-self : (r : R) → minus r r ≡ []
     minus-self r = (within-by_minus r r).0 (within-self r)
-
-    -- where a region is taken from each of a list, its points are gone and all others count as before
-    pub hits-flat_map : (c : R) (rs : List R) (p : P) →
-        hits has (flat_map (λ r. minus r c) rs) p ≡ cond (has c p) 0 (hits has rs p)
-    hits-flat_map c [] p = go (has c p)
-      where
-        go : (gone : Bool) → ◌≡◌ {A = ℕ} 0 (cond gone 0 0)
-        go true = refl
-        go false = refl
-    hits-flat_map c (r ∷ rs) p =
-        rw (hits-append has (minus r c), hits-flat_map c rs p, laws.minus_hits r c p) (go (has r p) (has c p))
-      where
-        go : (here gone : Bool) → one_if (here && not gone) + cond gone 0 (hits has rs p) ≡ cond gone 0 (one_if here + hits has rs p)
-        go true true = refl
-        go true false = refl
-        go false true = refl
-        go false false = refl

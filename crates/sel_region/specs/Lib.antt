@@ -1,6 +1,5 @@
-pub mod Region
+pub mod Cutting
 pub mod Interval
 pub mod Pair
-pub mod RegionLemmas
-pub mod IntervalLaws
-pub mod PairLaws
+pub mod Region
+pub mod laws

@@ -36,7 +36,8 @@ pub record IsOrder {P : Type 0} (at_most : P → P → Bool) : Type 0 where
   pub antisymmetric : (p q : P) → at_most p q ≡ true → at_most q p ≡ true → p ≡ q
 
 -- the laws of a kind of region R with points P
-pub record IsRegion {R P : Type 0} (has : R → P → Bool) (at_most : P → P → Bool) (low : R → P) (meet : R → R → Option R) (within : R → R → Bool) (minus : R → R → List R) : Type 0 where
+pub record IsRegion {R P : Type 0} (has : R → P → Bool) (at_most : P → P → Bool) (low : R → P)
+    (meet : R → R → Option R) (within : R → R → Bool) (minus : R → R → List R) : Type 0 where
   -- a region is the set of its points: two that have the same points are the same
   pub same : (a b : R) → ((p : P) → has a p ≡ has b p) → a ≡ b
   -- that set isn't empty: the low point is in it, and is at most each other that is

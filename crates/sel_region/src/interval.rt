@@ -87,8 +87,9 @@ impl<A: Axis> Interval<A> {
 
 impl<A: Axis> Region for Interval<A> {
     ghost use Rattle.std.specs.Prelude.{nat_le};
-    ghost use Rattle.sel_region.specs.Interval.{range_has, range_low, range_meet, range_within, range_minus};
-    ghost use Rattle.sel_region.specs.IntervalLaws.{range_laws};
+    ghost use Rattle.sel_region.specs.Interval.{range_has, range_low, range_meet, range_minus};
+    ghost use Rattle.sel_region.specs.Interval.{range_within};
+    ghost use Rattle.sel_region.specs.laws.IntervalLaws.{range_laws};
 
     type Point = u128;
 
@@ -140,8 +141,8 @@ impl<A: Axis> Region for Interval<A> {
         frame: F,
         pieces: &mut Vec<F::Whole>,
     ) -> Result<(), NoMemory> {
-        // Where a piece lies below the other, the other's low end isn't 0, and where one lies above,
-        // its high end isn't the last number: neither step passes an end of the type.
+        // Where a piece lies below the other, the other's low end isn't 0, and where one lies
+        // above, its high end isn't the last number: neither step passes an end of the type.
         if self.low < other.low {
             pieces.push(frame.around(Interval::between(self.low, other.low - 1)))?;
         }

@@ -1,7 +1,10 @@
 //! What follows from the laws of regions, for every kind of region and every axis.
 
-ghost use Rattle.std.specs.Prelude.{◌≡◌, ◌↔◌, ℕ, true, [], Some};
+ghost use Rattle.std.specs.Prelude.{◌≡◌, ◌↔◌, ℕ, true, List, [], Some, if◌then◌else◌};
+ghost use Rattle.std.specs.List.{list_any};
+ghost use Rattle.sel_region.specs.Cutting.{cut_all, cut_each};
 ghost use Rattle.sel_region.specs.Interval.{Range, range_on, range_within, whole_range};
+ghost use Rattle.sel_region.specs.Region.{hits};
 
 use crate::axis::Axis;
 use crate::region::Region;
@@ -25,6 +28,17 @@ pub fn region_meet<R: Region>()
     ensures sides { (a b : R) → R.meet a b ≡ R.meet b a }
     ensures within { (a b m : R) → R.meet a b ≡ Some m
         → (R.within m a ≡ true) × (R.within m b ≡ true) }
+{}
+
+/// Where a region is taken out of each piece of a list, its points are in no piece, and any other
+/// point is in as many as before. So it is where some regions are taken out.
+pub fn cut_points<R: Region>()
+    ensures each { (pieces : List R) (region : R) (p : R.Point) →
+        hits R.has (cut_each R.minus pieces region) p
+        ≡ (if R.has region p then 0 else hits R.has pieces p) }
+    ensures all { (pieces regions : List R) (p : R.Point) →
+        hits R.has (cut_all R.minus pieces regions) p
+        ≡ (if list_any (λ region. R.has region p) regions then 0 else hits R.has pieces p) }
 {}
 
 /// The whole axis is an interval, and each interval on the axis is within it.

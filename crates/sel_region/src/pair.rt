@@ -14,8 +14,9 @@ pub struct Pair<R, S> {
 }
 
 impl<R: Region, S: Region> Region for Pair<R, S> {
-    ghost use Rattle.sel_region.specs.Pair.{pair_has, pair_at_most, pair_low, pair_meet, pair_within, pair_minus};
-    ghost use Rattle.sel_region.specs.PairLaws.{pair_laws};
+    ghost use Rattle.sel_region.specs.Pair.{pair_at_most, pair_has, pair_low, pair_meet};
+    ghost use Rattle.sel_region.specs.Pair.{pair_minus, pair_within};
+    ghost use Rattle.sel_region.specs.laws.PairLaws.{pair_laws};
 
     type Point = (R::Point, S::Point);
 

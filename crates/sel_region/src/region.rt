@@ -1,4 +1,5 @@
-ghost use Rattle.std.specs.Prelude.{◌≡◌, ◌++◌, List, Bool, Option, IsSome, OnOk, OnErr, map, take, length};
+ghost use Rattle.std.specs.Prelude.{◌≡◌, ◌++◌, List, Bool, Option, IsSome, OnOk, OnErr};
+ghost use Rattle.std.specs.Prelude.{length, map, take};
 ghost use Rattle.sel_region.specs.Region.{IsRegion};
 
 use lists::NoMemory;
@@ -35,9 +36,9 @@ impl<R: Copy> Frame<R> for NoFrame {
 
 /// A set of points, never empty, that is kept by its bounds on each axis.
 ///
-/// Each kind of region proves the laws of `IsRegion` (`specs/Region.antt`), which say by points what
-/// the calls answer. Code that is generic over regions needs nothing else. All calls but `minus` and
-/// `minus_in` take no memory, and each takes a time in the number of axes alone.
+/// Each kind of region proves the laws of `IsRegion` (`specs/Region.antt`), which say by points
+/// what the calls answer. Code that is generic over regions needs nothing else. All calls but
+/// `minus` and `minus_in` take no memory, and each takes a time in the number of axes alone.
 pub trait Region: Copy {
     /// A point: one number for each axis.
     type Point;
@@ -71,7 +72,7 @@ pub trait Region: Copy {
         ensures { result ≡ low self.now };
 
     /// Appends the pieces of `minus`, each put into the frame, for a region that meets the other.
-    /// Where memory is wanting, what stood in the list still stands first, and some of the pieces
+    /// Where there is no memory, what stood in the list still stands first, and some of the pieces
     /// may stand after it.
     ///
     /// This is for kinds of regions that are made of others; `minus` is for everyone else.
@@ -94,8 +95,8 @@ pub trait Region: Copy {
     /// the meet on the axes before, and the region's own on the axes after. A region that doesn't
     /// meet the other is appended as it is.
     ///
-    /// At most two pieces are appended for each axis, and nothing else takes memory. Where memory is
-    /// wanting, the list is unchanged.
+    /// At most two pieces are appended for each axis, and nothing else takes memory. Where there is
+    /// none, the list is unchanged.
     final fn minus(&self, other: &Self, pieces: &mut Vec<Self>) -> Result<(), NoMemory>
         ensures ok { OnOk result
             (pieces.new.items ≡ pieces.old.items ++ minus self.now other.now) }

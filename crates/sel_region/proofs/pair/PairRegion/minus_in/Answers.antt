@@ -8,5 +8,7 @@ pub returns-clause-ok : goal.returns-clause-ok
 returns-clause-ok g c =
     let around = g.F.Frame.around c.args.frame in
     let met = sym c.meet.ensures ∙ c.unwrap-first.ensures in
-    let all_in_frame = map-pair_minus around g.R.Region.meet g.S.Region.meet g.R.Region.minus g.S.Region.minus c.args.self.now c.args.other.now c.unwrap-first.result c.args.pieces.now.items _ _ met c.requires c.in_ok-minus_in.ensures.ok in
+    let all_in_frame =
+    map-pair_minus around g.R.Region.meet g.S.Region.meet g.R.Region.minus g.S.Region.minus c.args.self.now c.args.other.now
+    c.unwrap-first.result c.args.pieces.now.items _ _ met c.requires c.in_ok-minus_in.ensures.ok in
     on_ok_weaker _ all_in_frame c.minus_in-2.ensures.ok

@@ -1,12 +1,14 @@
 -- Pairs of regions are regions of pairs of points.
-use Rattle.std.proofs.Common.{◌≡◌, ◌+◌, Bool, true, false, not, ◌&&◌, cond, List, [], ◌∷◌, ◌++◌, Option, Some, None, IsNone, MatchBool, ◌⊎◌, inl, inr, sym, refl, ap₂, ◌∙◌, arith}
+use Rattle.std.proofs.Common.{◌≡◌, ◌+◌, Bool, true, false, not, ◌&&◌, cond, List, [], ◌∷◌, ◌++◌, Option, Some, None, IsNone, MatchBool, ◌⊎◌, inl, inr}
+use Rattle.std.proofs.Common.{sym, refl, ap₂, ◌∙◌, arith}
 use Rattle.std.specs.Option.{option_map_or}
 use Rattle.std.proofs.Math.Bool.{and_comm}
 use Rattle.std.proofs.lemmas.Bool.{and_parts, and_from, and_left, and_right}
 use Rattle.sel_region.specs.declared.pair.Pair.{Pair}
 use Rattle.sel_region.specs.Region.{one_if, hits, some_has, AllInside, SomeOutside, IsOrder, IsRegion}
-use Rattle.sel_region.specs.Pair.{pair_of, pair_has, pair_at_most, pair_low, both, pair_meet, pair_within, pieces_on_first, pieces_on_second, pair_minus}
-use Rattle.sel_region.specs.RegionLemmas.{hits-append, hits-map, alone-at_none, IsRegion-from_hits}
+use Rattle.sel_region.specs.Pair.{pair_of, pair_has, pair_at_most, pair_low, both, pair_meet, pair_within, pieces_on_first, pieces_on_second}
+use Rattle.sel_region.specs.Pair.{pair_minus}
+use Rattle.sel_region.specs.laws.RegionLemmas.{hits-append, hits-map, alone-at_none, IsRegion-from_hits}
 
 -- four tests, paired in two ways
 and_swap : (a b c d : Bool) → ((a && b) && (c && d)) ≡ ((a && c) && (b && d))
@@ -38,14 +40,18 @@ both_has has_first has_second (Some r) None p = and_comm false (has_first r p.0)
 both_has has_first has_second (Some r) (Some s) p = refl
 
 -- the pieces on the first part that have a point, and those on the second
-pieces_hits : {R S P Q : Type 0} (has_first : R → P → Bool) (has_second : S → Q → Bool) (minus_first : R → R → List R) (minus_second : S → S → List S) (common : R) (a b : Pair R S) (p : P × Q) →
+pieces_hits : {R S P Q : Type 0} (has_first : R → P → Bool) (has_second : S → Q → Bool)
+    (minus_first : R → R → List R) (minus_second : S → S → List S) (common : R) (a b : Pair R S) (p : P × Q) →
     hits (pair_has has_first has_second) (pieces_on_first minus_first a b ++ pieces_on_second minus_second common a b) p
-    ≡ cond (has_second a.second p.1) (hits has_first (minus_first a.first b.first) p.0) 0 + cond (has_first common p.0) (hits has_second (minus_second a.second b.second) p.1) 0
+    ≡ cond (has_second a.second p.1) (hits has_first (minus_first a.first b.first) p.0) 0
+    + cond (has_first common p.0) (hits has_second (minus_second a.second b.second) p.1) 0
 pieces_hits has_first has_second minus_first minus_second common a b p =
     hits-append (pair_has has_first has_second) (pieces_on_first minus_first a b) (pieces_on_second minus_second common a b) p
     ∙ ap₂ (λ m n. m + n)
-    (hits-map has_first (pair_has has_first has_second) (λ piece. pair_of piece a.second) p.0 p (has_second a.second p.1) (λ piece. and_comm (has_first piece p.0) (has_second a.second p.1)) (minus_first a.first b.first))
-    (hits-map has_second (pair_has has_first has_second) (pair_of common) p.1 p (has_first common p.0) (λ piece. refl) (minus_second a.second b.second))
+    (hits-map has_first (pair_has has_first has_second) (λ piece. pair_of piece a.second) p.0 p (has_second a.second p.1)
+    (λ piece. and_comm (has_first piece p.0) (has_second a.second p.1)) (minus_first a.first b.first))
+    (hits-map has_second (pair_has has_first has_second) (pair_of common) p.1 p (has_first common p.0)
+    (λ piece. refl) (minus_second a.second b.second))
 
 module _ {R S P Q : Type 0}
     {has_first : R → P → Bool} {has_second : S → Q → Bool}
@@ -100,8 +106,12 @@ module _ {R S P Q : Type 0}
     same : (a b : Pair R S) → ((p : P × Q) → has a p ≡ has b p) → a ≡ b
     same a b h =
         let low_in = and_parts (has_first b.first (low a).0) (has_second b.second (low a).1) (sym (h (low a)) ∙ has_low a) in
-        let same_first = first.same a.first b.first (λ p. and_cancel_right (has_first a.first p) _ (has_first b.first p) _ (second.has_low a.second) low_in.1 (h (p, (low a).1))) in
-        let same_second = second.same a.second b.second (λ q. and_cancel_left _ _ (has_second a.second q) (has_second b.second q) (first.has_low a.first) low_in.0 (h ((low a).0, q))) in
+        let same_first =
+        first.same a.first b.first
+        (λ p. and_cancel_right (has_first a.first p) _ (has_first b.first p) _ (second.has_low a.second) low_in.1 (h (p, (low a).1))) in
+        let same_second =
+        second.same a.second b.second
+        (λ q. and_cancel_left _ _ (has_second a.second q) (has_second b.second q) (first.has_low a.first) low_in.0 (h ((low a).0, q))) in
         λ i. record { first = same_first i; second = same_second i }
 
     meet_has : (a b : Pair R S) (p : P × Q) → some_has has (meet a b) p ≡ (has a p && has b p)
@@ -122,10 +132,16 @@ module _ {R S P Q : Type 0}
         go true true inside inside' = λ p h.
             let parts = and_parts (has_first a.first p.0) (has_second a.second p.1) h in
             and_from _ _ (inside p.0 parts.0) (inside' p.1 parts.1)
-        go true false inside outside =
-            ((low_first a.first, outside.0), and_from _ _ (first.has_low a.first) outside.1, and_right (has_first b.first (low_first a.first)) _ outside.2)
-        go false y outside second_part =
-            ((outside.0, low_second a.second), and_from _ _ outside.1 (second.has_low a.second), and_left _ (has_second b.second (low_second a.second)) outside.2)
+        go true false inside outside = (
+          (low_first a.first, outside.0),
+          and_from _ _ (first.has_low a.first) outside.1,
+          and_right (has_first b.first (low_first a.first)) _ outside.2,
+        )
+        go false y outside second_part = (
+          (outside.0, low_second a.second),
+          and_from _ _ outside.1 (second.has_low a.second),
+          and_left _ (has_second b.second (low_second a.second)) outside.2,
+        )
 
     minus_hits : (a b : Pair R S) (p : P × Q) → hits has (minus a b) p ≡ one_if (has a p && not (has b p))
     unfolding pair_minus
@@ -135,11 +151,18 @@ module _ {R S P Q : Type 0}
         go : (r : Option R) (s : Option S) →
             some_has has_first r p.0 ≡ (has_first a.first p.0 && has_first b.first p.0) →
             some_has has_second s p.1 ≡ (has_second a.second p.1 && has_second b.second p.1) →
-            hits has (option_map_or (λ (common : Pair R S). pieces_on_first minus_first a b ++ pieces_on_second minus_second common.first a b) (both r s) (a ∷ [])) p ≡ one_if (has a p && not (has b p))
+            hits has
+            (option_map_or (λ (common : Pair R S). pieces_on_first minus_first a b ++ pieces_on_second minus_second common.first a b) (both r s) (a ∷ []))
+            p ≡ one_if (has a p && not (has b p))
         go None s e f = difference_apart (has_first a.first p.0) (has_first b.first p.0) (has_second a.second p.1) (has_second b.second p.1) (inl e)
         go (Some r) None e f = difference_apart (has_first a.first p.0) (has_first b.first p.0) (has_second a.second p.1) (has_second b.second p.1) (inr f)
         go (Some r) (Some s) e f =
-            rw (pieces_hits has_first has_second minus_first minus_second r a b p, first.minus_hits a.first b.first p.0, second.minus_hits a.second b.second p.1, e)
+            rw (
+              pieces_hits has_first has_second minus_first minus_second r a b p,
+              first.minus_hits a.first b.first p.0,
+              second.minus_hits a.second b.second p.1,
+              e,
+            )
             (difference_split (has_first a.first p.0) (has_first b.first p.0) (has_second a.second p.1) (has_second b.second p.1))
 
     minus_alone : (a b : Pair R S) → IsNone (meet a b) → minus a b ≡ a ∷ []

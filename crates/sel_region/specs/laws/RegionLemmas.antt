@@ -1,5 +1,6 @@
 -- How many regions of a list have a point, and the laws of a kind of region from the fewest facts.
-use Rattle.std.proofs.Common.{◌≡◌, ℕ, ◌+◌, ◌<◌, ◌≤◌, Bool, true, false, not, ◌&&◌, ◌||◌, cond, length, List, [], ◌∷◌, ◌++◌, map, get_or, Option, Some, None, IsNone, ◌↔◌, MatchBool, sym, refl, ap, ◌∙◌, add_assoc, zero-add, arith}
+use Rattle.std.proofs.Common.{◌≡◌, ℕ, ◌+◌, ◌<◌, ◌≤◌, Bool, true, false, not, ◌&&◌, ◌||◌, cond, length, List, [], ◌∷◌, ◌++◌, map, get_or, Option, Some}
+use Rattle.std.proofs.Common.{None, IsNone, ◌↔◌, MatchBool, sym, refl, ap, ◌∙◌, add_assoc, zero-add, arith}
 use Rattle.std.specs.List.{AllPairs, All, list_any}
 use Rattle.std.specs.Option.{option_map_or}
 use Rattle.std.proofs.lemmas.Bool.{both_ways}
@@ -83,7 +84,8 @@ one_if-le true = omega arith
 one_if-le false = omega arith
 
 -- all laws follow where the pieces are known by counting alone
-pub IsRegion-from_hits : {R P : Type 0} (has : R → P → Bool) (at_most : P → P → Bool) (low : R → P) (meet : R → R → Option R) (within : R → R → Bool) (minus : R → R → List R) →
+pub IsRegion-from_hits : {R P : Type 0} (has : R → P → Bool) (at_most : P → P → Bool) (low : R → P)
+    (meet : R → R → Option R) (within : R → R → Bool) (minus : R → R → List R) →
     ((a b : R) → ((p : P) → has a p ≡ has b p) → a ≡ b) →
     ((r : R) → has r (low r) ≡ true) →
     ((r : R) (p : P) → has r p ≡ true → at_most (low r) p ≡ true) →

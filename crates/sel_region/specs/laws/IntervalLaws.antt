@@ -3,7 +3,7 @@ use Rattle.std.proofs.Common.{◌≡◌, ℕ, Bool, true, false, not, ◌&&◌, 
 use Rattle.std.proofs.lemmas.Bool.Decides.{nat_tests}
 use Rattle.sel_region.specs.Region.{one_if, hits, some_has, AllInside, SomeOutside, IsOrder, IsRegion}
 use Rattle.sel_region.specs.Interval.{Range, high_of, range_has, range_low, range_meet, range_within, piece_below, piece_above, range_minus}
-use Rattle.sel_region.specs.RegionLemmas.{alone-at_none, IsRegion-from_hits}
+use Rattle.sel_region.specs.laws.RegionLemmas.{alone-at_none, IsRegion-from_hits}
 
 order : IsOrder nat_le
 order = record {
