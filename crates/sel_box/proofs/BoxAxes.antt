@@ -7,8 +7,9 @@ use Rattle.sel_region.specs.Pair.{pair_has}
 use Rattle.sel_box.specs.declared.any_box.AnyBox.{AnyBox}
 use Rattle.sel_box.specs.declared.any_box.AxisName.{AxisName}
 use Rattle.sel_box.specs.Point.{PointFields}
-use Rattle.sel_box.specs.Boxes.{values_of, same_family, family_of, ranges_of, range_at, value_at, ranges_have, box_has}
-use Rattle.sel_box.specs.BoxLaws.{same_family-refl, equal_from_same}
+use Rattle.sel_box.specs.Boxes.{values_of, family_of, ranges_of, range_at, value_at, ranges_have, box_has}
+use Rattle.sel_text.specs.Family.{same_family}
+use Rattle.sel_box.specs.laws.BoxLaws.{same_family-refl, equal_from_same}
 use Rattle.sel_box.specs.ByAxes.{LiesByAxes}
 
 low_below : (r : Range) (n : ℕ) → range_has r n ≡ true → r.low ≤ n
@@ -46,7 +47,9 @@ all_axes : (b : AnyBox) (x : PointFields) →
     ((axis : AxisName) → range_has (range_at axis b) (value_at axis x) ≡ true) →
     ranges_have (ranges_of b) (values_of x) ≡ true
 all_axes b x h =
-    and_from _ _ (h AxisName.Local) (and_from _ _ (h AxisName.Remote) (and_from _ _ (h AxisName.Protocol) (and_from _ _ (h AxisName.LocalField) (h AxisName.RemoteField))))
+    and_from _ _ (h AxisName.Local)
+    (and_from _ _ (h AxisName.Remote)
+    (and_from _ _ (h AxisName.Protocol) (and_from _ _ (h AxisName.LocalField) (h AxisName.RemoteField))))
 
 pub box_has-by_axes : (b : AnyBox) (x : PointFields) → (box_has b x ≡ true) ↔ LiesByAxes b x
 box_has-by_axes b x = (apart, together)

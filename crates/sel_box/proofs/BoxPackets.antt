@@ -1,5 +1,6 @@
 -- Packets whose views lie in a box, by what they show in its ranges.
-use Rattle.std.proofs.Common.{◌≡◌, ℕ, ◌≤◌, Bool, true, false, ◌&&◌, ◌||◌, nat_le, inl, inr, ◌↔◌, IsTrue, if◌then◌else◌, Option, Some, None, sym, refl, ap, ◌∙◌, subst, arith}
+use Rattle.std.proofs.Common.{◌≡◌, ℕ, ◌≤◌, Bool, true, false, ◌&&◌, ◌||◌, nat_le, inl, inr, ◌↔◌, IsTrue, if◌then◌else◌, Option, Some, None, sym, refl, ap, ◌∙◌}
+use Rattle.std.proofs.Common.{subst, arith}
 use Rattle.std.proofs.lemmas.Bool.{and_from, and_parts, both_ways, or_cases}
 use Rattle.std.proofs.lemmas.Bool.Decides.{nat_tests}
 use Rattle.sel_region.specs.Interval.{Range, range_has}
@@ -9,13 +10,15 @@ use Rattle.sel_box.specs.declared.packet.Direction.{Direction}
 use Rattle.sel_box.specs.declared.packet.Direction.TheVariants.{Outbound, Inbound}
 use Rattle.sel_box.specs.declared.shown.PacketRanges.{PacketRanges}
 use Rattle.sel_box.specs.declared.shown.Shown.{Shown}
-use Rattle.sel_box.specs.Boxes.{box_has, family_of, range_at, ranges_have, ranges_of, same_family, values_of}
-use Rattle.sel_box.specs.BoxLaws.{equal_from_same, same_family-refl}
+use Rattle.sel_box.specs.Boxes.{box_has, family_of, range_at, ranges_have, ranges_of, values_of}
+use Rattle.sel_text.specs.Family.{same_family}
+use Rattle.sel_box.specs.laws.BoxLaws.{equal_from_same, same_family-refl}
 use Rattle.sel_box.specs.Class.{fields_fit}
 use Rattle.sel_box.specs.LeastPacket.{HasNoPacket, IsLeastPacket, is_packet_in, version_of}
-use Rattle.sel_box.specs.Packet.{PacketFields, is_packet, last_address, protocol_fits}
+use Rattle.sel_box.specs.Packet.{PacketFields, is_packet, protocol_fits}
+use Rattle.sel_text.specs.Family.{last_address}
 use Rattle.sel_box.specs.Point.{IsReal, PointFields, packet_at, real_point, view_of}
-use Rattle.sel_box.specs.Shown.{HasNoneShown, IsLeastShown, inbound_ranges, is_shown, outbound_ranges, shows_in}
+use Rattle.sel_box.specs.inner.Shown.{HasNoneShown, IsLeastShown, inbound_ranges, is_shown, outbound_ranges, shows_in}
 use Rattle.sel_box.specs.SomePoint.{has_addresses, has_packet, has_real_point}
 use Rattle.sel_box.proofs.FieldsShown.{shows-from, shows-parts}
 use Rattle.sel_box.proofs.LeastShown.{at_most_then-from, is_shown-from, is_shown-parts, or_left, or_right, some_shows-from, some_shows-some}
@@ -35,7 +38,7 @@ box_has-parts b x has =
     let locals = and_parts (range_has (range_at AxisName.Local b) x.local) _ all.1 in
     let remotes = and_parts (range_has (range_at AxisName.Remote b) x.remote) _ locals.1 in
     let protocols = and_parts (range_has (range_at AxisName.Protocol b) x.protocol) _ remotes.1 in
-    let fields = and_parts (range_has (range_at AxisName.LocalField b) x.local_field) (range_has (range_at AxisName.RemoteField b) x.remote_field) protocols.1 in
+    let fields = and_parts (range_has (range_at AxisName.LocalField b) x.local_field) _ protocols.1 in
     record {
       family = equal_from_same (family_of b) x.family all.0;
       local = locals.0;
@@ -51,23 +54,25 @@ box_has-from b x parts =
     (and_from _ _ parts.local (and_from _ _ parts.remote (and_from _ _ parts.protocol (and_from _ _ parts.local_field parts.remote_field))))
 
 -- the values of a packet, one by one
-record PacketParts (p : PacketFields) : Type 0 where
-  source : p.source ≤ last_address p.family
-  destination : p.destination ≤ last_address p.family
-  protocol : protocol_fits p.family p.protocol ≡ true
-  fields : fields_fit p.protocol p.source_field p.destination_field ≡ true
+pub record PacketParts (p : PacketFields) : Type 0 where
+  pub source : p.source ≤ last_address p.family
+  pub destination : p.destination ≤ last_address p.family
+  pub protocol : protocol_fits p.family p.protocol ≡ true
+  pub fields : fields_fit p.protocol p.source_field p.destination_field ≡ true
 
 le_from_test : (m n : ℕ) → nat_le m n ≡ true → m ≤ n
 le_from_test m n e = grind (arith, nat_tests)
 
-test_from_le : (m n : ℕ) → m ≤ n → nat_le m n ≡ true
+pub test_from_le : (m n : ℕ) → m ≤ n → nat_le m n ≡ true
 test_from_le m n e = grind (arith, nat_tests)
 
-is_packet-parts : (p : PacketFields) → is_packet p ≡ true → PacketParts p
+pub is_packet-parts : (p : PacketFields) → is_packet p ≡ true → PacketParts p
 is_packet-parts p e =
-    let all = and_parts (nat_le p.source (last_address p.family) && nat_le p.destination (last_address p.family) && protocol_fits p.family p.protocol) (fields_fit p.protocol p.source_field p.destination_field) e in
-    let protocols = and_parts (nat_le p.source (last_address p.family) && nat_le p.destination (last_address p.family)) (protocol_fits p.family p.protocol) all.0 in
-    let addresses = and_parts (nat_le p.source (last_address p.family)) (nat_le p.destination (last_address p.family)) protocols.0 in
+    let last = last_address p.family in
+    let fit = fields_fit p.protocol p.source_field p.destination_field in
+    let all = and_parts (nat_le p.source last && nat_le p.destination last && protocol_fits p.family p.protocol) fit e in
+    let protocols = and_parts (nat_le p.source last && nat_le p.destination last) (protocol_fits p.family p.protocol) all.0 in
+    let addresses = and_parts (nat_le p.source last) (nat_le p.destination last) protocols.0 in
     record {
       source = le_from_test p.source (last_address p.family) addresses.0;
       destination = le_from_test p.destination (last_address p.family) addresses.1;
@@ -77,7 +82,9 @@ is_packet-parts p e =
 
 is_packet-from : (p : PacketFields) → PacketParts p → is_packet p ≡ true
 is_packet-from p parts =
-    and_from _ _ (and_from _ _ (and_from _ _ (test_from_le p.source (last_address p.family) parts.source) (test_from_le p.destination (last_address p.family) parts.destination)) parts.protocol) parts.fields
+    let last = last_address p.family in
+    let addresses = and_from _ _ (test_from_le p.source last parts.source) (test_from_le p.destination last parts.destination) in
+    and_from _ _ (and_from _ _ addresses parts.protocol) parts.fields
 
 -- the ranges of a box for packets of a direction
 abbrev pub ranges_in : Direction → AnyBox → PacketRanges
@@ -113,7 +120,9 @@ shown_from_view Outbound b p packet has =
     is_shown-from (outbound_ranges b) (shown_of p) (record {
       protocol = parts.protocol;
       family = subst (λ f. protocol_fits f p.protocol ≡ true) (sym parts.family) values.protocol;
-      fields = shows-from p.protocol (range_at AxisName.LocalField b) (range_at AxisName.RemoteField b) p.source_field p.destination_field parts.local_field parts.remote_field values.fields;
+      fields =
+          shows-from p.protocol (range_at AxisName.LocalField b) (range_at AxisName.RemoteField b) p.source_field p.destination_field
+          parts.local_field parts.remote_field values.fields;
     })
 shown_from_view Inbound b p packet has =
     let parts = box_has-parts b (view_of Inbound p) has in
@@ -121,8 +130,14 @@ shown_from_view Inbound b p packet has =
     is_shown-from (inbound_ranges b) (shown_of p) (record {
       protocol = parts.protocol;
       family = subst (λ f. protocol_fits f p.protocol ≡ true) (sym parts.family) values.protocol;
-      fields = shows-from p.protocol (range_at AxisName.RemoteField b) (range_at AxisName.LocalField b) p.source_field p.destination_field parts.remote_field parts.local_field values.fields;
+      fields =
+          shows-from p.protocol (range_at AxisName.RemoteField b) (range_at AxisName.LocalField b) p.source_field p.destination_field
+          parts.remote_field parts.local_field values.fields;
     })
+
+-- the least addresses of a box, where addresses have this last one
+abbrev lows_fit : AnyBox → ℕ → Bool
+lows_fit b last = nat_le (range_at AxisName.Local b).low last && nat_le (range_at AxisName.Remote b).low last
 
 low_below : (r : Range) (n last : ℕ) → range_has r n ≡ true → n ≤ last → nat_le r.low last ≡ true
 low_below r n last has le = grind (arith, nat_tests)
@@ -133,18 +148,22 @@ addresses_from_view d b p packet has =
     let values = is_packet-parts p packet in
     go d (box_has-parts b (view_of d p) has) values.source values.destination
   where
+    fit : (local remote : ℕ) → family_of b ≡ p.family → range_has (range_at AxisName.Local b) local ≡ true →
+        range_has (range_at AxisName.Remote b) remote ≡ true → local ≤ last_address p.family → remote ≤ last_address p.family → has_addresses b ≡ true
+    fit local remote family has_local has_remote local_le remote_le =
+        subst (λ f. lows_fit b (last_address f) ≡ true) (sym family)
+        (and_from _ _ (low_below (range_at AxisName.Local b) local (last_address p.family) has_local local_le)
+        (low_below (range_at AxisName.Remote b) remote (last_address p.family) has_remote remote_le))
+
     go : (d : Direction) → BoxParts b (view_of d p) → p.source ≤ last_address p.family → p.destination ≤ last_address p.family → has_addresses b ≡ true
-    go Outbound parts source destination =
-        subst (λ f. (nat_le (range_at AxisName.Local b).low (last_address f) && nat_le (range_at AxisName.Remote b).low (last_address f)) ≡ true) (sym parts.family)
-        (and_from _ _ (low_below (range_at AxisName.Local b) p.source (last_address p.family) parts.local source) (low_below (range_at AxisName.Remote b) p.destination (last_address p.family) parts.remote destination))
-    go Inbound parts source destination =
-        subst (λ f. (nat_le (range_at AxisName.Local b).low (last_address f) && nat_le (range_at AxisName.Remote b).low (last_address f)) ≡ true) (sym parts.family)
-        (and_from _ _ (low_below (range_at AxisName.Local b) p.destination (last_address p.family) parts.local destination) (low_below (range_at AxisName.Remote b) p.source (last_address p.family) parts.remote source))
+    go Outbound parts source destination = fit p.source p.destination parts.family parts.local parts.remote source destination
+    go Inbound parts source destination = fit p.destination p.source parts.family parts.local parts.remote destination source
 
 address_parts : (b : AnyBox) → has_addresses b ≡ true →
     ((range_at AxisName.Local b).low ≤ last_address (family_of b)) × ((range_at AxisName.Remote b).low ≤ last_address (family_of b))
 address_parts b addresses =
-    let both = and_parts (nat_le (range_at AxisName.Local b).low (last_address (family_of b))) (nat_le (range_at AxisName.Remote b).low (last_address (family_of b))) addresses in
+    let last = last_address (family_of b) in
+    let both = and_parts (nat_le (range_at AxisName.Local b).low last) (nat_le (range_at AxisName.Remote b).low last) addresses in
     (le_from_test _ _ both.0, le_from_test _ _ both.1)
 
 -- what is shown in the ranges of a box is shown by a packet from its least addresses, which is seen in it
@@ -232,7 +251,8 @@ has_real_point-some b = (
       ],
   λ (x, has, (d, (p, (packet, same)))).
       let has_view = subst (λ (y : PointFields). box_has b y ≡ true) (sym same) has in
-      and_from _ _ (addresses_from_view d b p packet has_view) (either d (some_shows-from (ranges_in d b) (shown_of p) (shown_from_view d b p packet has_view))),
+      let shown = shown_from_view d b p packet has_view in
+      and_from _ _ (addresses_from_view d b p packet has_view) (either d (some_shows-from (ranges_in d b) (shown_of p) shown)),
 )
   where
     seen : (d : Direction) → has_addresses b ≡ true → (s : Shown) × (is_shown (ranges_in d b) s ≡ true) → (x : PointFields) × (IsTrue (box_has b x)) × IsReal x

@@ -1,5 +1,6 @@
 -- What a table of classes says of each protocol.
-use Rattle.std.proofs.Common.{◌≡◌, ℕ, suc, zero, ◌+◌, ◌-◌, ◌<◌, ◌≤◌, Bool, true, false, ◌&&◌, ◌||◌, nat_eq, nat_le, if◌then◌else◌, List, [], ◌∷◌, length, get_or, drop, sym, refl, ap, ap₂, ◌∙◌, subst, arith, add-one, drop-cons, drop_of_length-le}
+use Rattle.std.proofs.Common.{◌≡◌, ℕ, suc, zero, ◌+◌, ◌-◌, ◌<◌, ◌≤◌, Bool, true, false, ◌&&◌, ◌||◌, nat_eq, nat_le, if◌then◌else◌, List, [], ◌∷◌, length}
+use Rattle.std.proofs.Common.{get_or, drop, sym, refl, ap, ap₂, ◌∙◌, subst, arith, add-one, drop-cons, drop_of_length-le}
 use Rattle.std.proofs.lemmas.Bool.{and_parts}
 use Rattle.std.proofs.lemmas.Bool.Decides.{nat_tests}
 use Rattle.std.specs.List.{list_all, range_with_len}
@@ -8,7 +9,8 @@ use Rattle.sel_box.specs.declared.class.ClassRow.{ClassRow}
 use Rattle.sel_box.specs.declared.class.Shape.{Shape}
 use Rattle.sel_box.specs.declared.class.Shape.TheVariants.{NoField, OneField, TwoPorts}
 use Rattle.sel_box.specs.Class.{fields_fit, greatest_field, has_one_field, has_two_ports, opaque_field, opaque_protocol}
-use Rattle.sel_box.specs.Classes.{AreClasses, are_classes, row_has, row_is_right, row_tells, rows_follow, same_shape, shape_allows, shape_of, top_of}
+use Rattle.sel_box.specs.Classes.{AreClasses, are_classes, class_rows, row_has, row_is_right, row_tells, rows_follow, same_shape, shape_allows, shape_of}
+use Rattle.sel_box.specs.Classes.{top_of}
 
 -- a test of each number from one on, so many of them
 all_in_range : (test : ℕ → Bool) (a n k : ℕ) → list_all test (range_with_len a n) ≡ true → a ≤ k → k < a + n → test k ≡ true
@@ -38,7 +40,8 @@ fields_by_shape : (protocol source destination : ℕ) →
 fields_by_shape protocol source destination = go (has_two_ports protocol) (has_one_field protocol)
   where
     go : (two one : Bool) →
-        shape_allows (if two then TwoPorts else if one then OneField else NoField) (if two then 65535 else if one then greatest_field protocol else 0) source destination
+        shape_allows (if two then TwoPorts else if one then OneField else NoField)
+        (if two then 65535 else if one then greatest_field protocol else 0) source destination
         ≡ (if two
         then (nat_le source 65535 && nat_le destination 65535) || (nat_eq source opaque_field && nat_eq destination opaque_field)
         else if one
@@ -136,6 +139,11 @@ AreClasses-from_test rows are = record {
   where
     from_zero : (protocol : ℕ) → one_if (nat_le 0 protocol && nat_le protocol 256) ≡ one_if (nat_le protocol opaque_protocol)
     from_zero protocol = grind (arith, nat_tests)
+
+-- the 17 rows pass the test
+pub class_rows-right : are_classes class_rows ≡ true
+unfolding are_classes class_rows row_is_right rows_follow
+class_rows-right = refl
 
 -- a protocol that isn't before the rows that are left: the next of them doesn't begin after it
 pub rows_follow-at : (rows : List ClassRow) (i : ℕ) (d : ClassRow) (next protocol : ℕ) → i < length rows → next ≤ protocol →

@@ -6,7 +6,7 @@ use Rattle.std.specs.Option.{option_or}
 use Rattle.sel_region.specs.Interval.{Range, range_has}
 use Rattle.sel_box.specs.Class.{fields_fit, greatest_field, has_one_field, has_two_ports, opaque_field}
 use Rattle.sel_box.specs.LeastPacket.{at_most_then}
-use Rattle.sel_box.specs.Shown.{least_fields}
+use Rattle.sel_box.specs.inner.Shown.{least_fields}
 use Rattle.sel_box.specs.SomePoint.{shows, shows_fields}
 
 -- the first of three pairs that passes a test
@@ -144,7 +144,8 @@ module _ (protocol : ℕ) (sources destinations : Range) where
       elim (which_of test (sources.low, destinations.low) (sources.low, opaque_field) (opaque_field, opaque_field) f found) [
         | is_first e a ↦ subst (λ (g : ℕ × ℕ). at_most_then g.0 s (nat_le g.1 d) ≡ true) (sym e) (least_least sources.low destinations.low s d low least)
         | is_second e a b ↦ subst (λ (g : ℕ × ℕ). at_most_then g.0 s (nat_le g.1 d) ≡ true) (sym e)
-            (opaque_least (has_two_ports protocol) (has_one_field protocol) (greatest_field protocol) sources.low destinations.low s d low least parts.2 (unfit_low a)
+            (opaque_least (has_two_ports protocol) (has_one_field protocol) (greatest_field protocol)
+            sources.low destinations.low s d low least parts.2 (unfit_low a)
             (shows-parts protocol sources destinations sources.low opaque_field b).2)
         | is_third e a b c ↦ subst (λ (g : ℕ × ℕ). at_most_then g.0 s (nat_le g.1 d) ≡ true) (sym e)
             (let both = last_corner s d shown a b in least_least opaque_field opaque_field s d (omega (arith, both)) (omega (arith, both)))
@@ -165,7 +166,8 @@ module _ (protocol : ℕ) (sources destinations : Range) where
 
   pub shows_fields-some : shows_fields protocol sources destinations ≡ true → (s : ℕ) × (d : ℕ) × (test s d ≡ true)
   shows_fields-some some =
-      go (test sources.low destinations.low) (test sources.low opaque_field) (test opaque_field destinations.low) (test opaque_field opaque_field) refl refl refl refl some
+      go (test sources.low destinations.low) (test sources.low opaque_field)
+      (test opaque_field destinations.low) (test opaque_field opaque_field) refl refl refl refl some
     where
       go : (w x y z : Bool) → test sources.low destinations.low ≡ w → test sources.low opaque_field ≡ x →
           test opaque_field destinations.low ≡ y → test opaque_field opaque_field ≡ z →

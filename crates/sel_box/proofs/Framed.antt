@@ -2,8 +2,8 @@
 use Rattle.std.proofs.Common.{◌≡◌, ◌++◌, List, map, sym, ap, ◌∙◌}
 use Rattle.std.proofs.lemmas.Simd.{map-map}
 use Rattle.sel_box.specs.declared.any_box.AnyBox.{AnyBox}
-use Rattle.sel_box.specs.declared.packet.Family.{Family}
-use Rattle.sel_box.specs.declared.packet.Family.TheVariants.{Four, Six}
+use Rattle.sel_text.specs.declared.family.Family.{Family}
+use Rattle.sel_text.specs.declared.family.Family.TheVariants.{Four, Six}
 use Rattle.sel_box.specs.Boxes.{Ranges, box_from}
 use Rattle.sel_box.specs.BoxRegion.{ranges_minus, box_minus}
 

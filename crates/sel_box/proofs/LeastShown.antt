@@ -1,23 +1,25 @@
 -- The least that packets show in ranges of protocols and fields: row by row of the table of classes.
-use Rattle.std.proofs.Common.{◌≡◌, ℕ, suc, zero, ◌+◌, ◌<◌, ◌≤◌, max, Bool, true, false, ◌&&◌, ◌||◌, nat_eq, nat_le, if◌then◌else◌, List, [], ◌∷◌, Option, Some, None, is_some, IfSome, IfNone, option_map, sym, refl, ap, ◌∙◌, subst, arith}
+use Rattle.std.proofs.Common.{◌≡◌, ℕ, suc, zero, ◌+◌, ◌<◌, ◌≤◌, max, Bool, true, false, ◌&&◌, ◌||◌, nat_eq, nat_le, if◌then◌else◌, List, [], ◌∷◌, Option, Some}
+use Rattle.std.proofs.Common.{None, is_some, IfSome, IfNone, option_map, sym, refl, ap, ◌∙◌, subst, arith}
 use Rattle.std.proofs.lemmas.Bool.{and_from, and_parts, both_ways}
 use Rattle.std.proofs.lemmas.Bool.Decides.{nat_tests}
 use Rattle.std.specs.List.{list_all, list_any, range_with_len}
 use Rattle.std.specs.Option.{option_or}
 use Rattle.sel_region.specs.Interval.{Range, high_of, range_has}
 use Rattle.sel_box.specs.declared.class.ClassRow.{ClassRow}
-use Rattle.sel_box.specs.declared.packet.Family.{Family}
-use Rattle.sel_box.specs.declared.packet.Family.TheVariants.{Four, Six}
+use Rattle.sel_text.specs.declared.family.Family.{Family}
+use Rattle.sel_text.specs.declared.family.Family.TheVariants.{Four, Six}
 use Rattle.sel_box.specs.declared.shown.PacketRanges.{PacketRanges}
 use Rattle.sel_box.specs.declared.shown.Shown.{Shown}
 use Rattle.sel_box.specs.Class.{fields_fit}
 use Rattle.sel_box.specs.Classes.{are_classes, row_has, row_is_right, rows_follow, shape_allows}
 use Rattle.sel_box.specs.LeastPacket.{at_most_then}
 use Rattle.sel_box.specs.Packet.{protocol_fits}
-use Rattle.sel_box.specs.Shown.{HasNoneShown, IsLeastShown, is_shown, least_fields, row_shows, rows_show, shown_at_most, shows_in}
+use Rattle.sel_box.specs.inner.Shown.{HasNoneShown, IsLeastShown, is_shown, least_fields, row_shows, rows_show, shown_at_most, shows_in}
 use Rattle.sel_box.specs.SomePoint.{all_protocols, shows, shows_fields, some_shows}
 use Rattle.sel_box.proofs.ClassRows.{classes_follow, classes_right, row_fields, row_has-from_ends, rows_follow-end, rows_follow-parts}
-use Rattle.sel_box.proofs.FieldsShown.{least_fields-inside, least_fields-least, least_fields-none, shows-from, shows-parts, shows_fields-from, shows_fields-some}
+use Rattle.sel_box.proofs.FieldsShown.{least_fields-inside, least_fields-least, least_fields-none, shows-from, shows-parts, shows_fields-from}
+use Rattle.sel_box.proofs.FieldsShown.{shows_fields-some}
 
 -- what is shown, part by part
 pub record ShownParts (r : PacketRanges) (s : Shown) : Type 0 where
@@ -27,10 +29,15 @@ pub record ShownParts (r : PacketRanges) (s : Shown) : Type 0 where
 
 pub is_shown-parts : (r : PacketRanges) (s : Shown) → is_shown r s ≡ true → ShownParts r s
 is_shown-parts r s shown =
-    let fit = and_parts (range_has r.protocols s.protocol && protocol_fits r.family s.protocol && range_has r.source_fields s.source_field && range_has r.destination_fields s.destination_field) (fields_fit s.protocol s.source_field s.destination_field) shown in
-    let destinations = and_parts (range_has r.protocols s.protocol && protocol_fits r.family s.protocol && range_has r.source_fields s.source_field) (range_has r.destination_fields s.destination_field) fit.0 in
-    let sources = and_parts (range_has r.protocols s.protocol && protocol_fits r.family s.protocol) (range_has r.source_fields s.source_field) destinations.0 in
-    let protocols = and_parts (range_has r.protocols s.protocol) (protocol_fits r.family s.protocol) sources.0 in
+    let has_protocol = range_has r.protocols s.protocol in
+    let family_fits = protocol_fits r.family s.protocol in
+    let has_source = range_has r.source_fields s.source_field in
+    let has_destination = range_has r.destination_fields s.destination_field in
+    let fields_are_fit = fields_fit s.protocol s.source_field s.destination_field in
+    let fit = and_parts (has_protocol && family_fits && has_source && has_destination) fields_are_fit shown in
+    let destinations = and_parts (has_protocol && family_fits && has_source) has_destination fit.0 in
+    let sources = and_parts (has_protocol && family_fits) has_source destinations.0 in
+    let protocols = and_parts has_protocol family_fits sources.0 in
     record {
       protocol = protocols.0;
       family = protocols.1;
@@ -65,6 +72,9 @@ tried r row = max row.first r.protocols.low
 abbrev can_try : PacketRanges → ClassRow → Bool
 can_try r row = nat_le (tried r row) row.last && nat_le (tried r row) (high_of r.protocols) && protocol_fits r.family (tried r row)
 
+abbrev shown_at : ℕ → ℕ × ℕ → Shown
+shown_at protocol fields = record { protocol = protocol; source_field = fields.0; destination_field = fields.1 }
+
 abbrev fields_of_row : PacketRanges → ClassRow → Option (ℕ × ℕ)
 fields_of_row r row = least_fields (shape_allows row.shape row.top) r.source_fields r.destination_fields
 
@@ -73,11 +83,11 @@ row_shows-some : (r : PacketRanges) (row : ClassRow) (s : Shown) → row_shows r
 row_shows-some r row s found = go (can_try r row) (fields_of_row r row) found
   where
     go : (can : Bool) (fields : Option (ℕ × ℕ)) →
-        (if can then option_map (λ (f : ℕ × ℕ). let t : Shown = record { protocol = tried r row; source_field = f.0; destination_field = f.1 } in t) fields else None) ≡ Some s →
+        (if can then option_map (shown_at (tried r row)) fields else None) ≡ Some s →
         (can ≡ true) × (s.protocol ≡ tried r row) × (fields ≡ Some (s.source_field, s.destination_field))
     go true None e = absurd (let none : ⊥ = cc in none)
     go true (Some f) e =
-        let same : (record { protocol = tried r row; source_field = f.0; destination_field = f.1 }) ≡ s = cc in
+        let same : shown_at (tried r row) f ≡ s = cc in
         (refl, sym (ap (λ (t : Shown). t.protocol) same), ap (λ (t : Shown). Some (t.source_field, t.destination_field)) same)
     go false fields e = absurd (let none : ⊥ = cc in none)
 
@@ -85,7 +95,7 @@ row_shows-none : (r : PacketRanges) (row : ClassRow) → row_shows r row ≡ Non
 row_shows-none r row found can = go (can_try r row) (fields_of_row r row) found can
   where
     go : (can : Bool) (fields : Option (ℕ × ℕ)) →
-        (if can then option_map (λ (f : ℕ × ℕ). let t : Shown = record { protocol = tried r row; source_field = f.0; destination_field = f.1 } in t) fields else None) ≡ None →
+        (if can then option_map (shown_at (tried r row)) fields else None) ≡ None →
         can ≡ true → fields ≡ None
     go true None e can = refl
     go true (Some f) e can = absurd (let none : ⊥ = cc in none)
@@ -127,7 +137,9 @@ row_shows-shown r row s right found =
     let parts = row_shows-some r row s found in
     let can = can_try-parts r row parts.0 in
     let has = row_has-from_ends row (tried r row) (omega arith) can.0 in
-    let inside = least_fields-inside (tried r row) r.source_fields r.destination_fields (s.source_field, s.destination_field) (sym (fields_of_row-at r row (tried r row) right has) ∙ parts.2) in
+    let inside =
+    least_fields-inside (tried r row) r.source_fields r.destination_fields (s.source_field, s.destination_field)
+    (sym (fields_of_row-at r row (tried r row) right has) ∙ parts.2) in
     is_shown-from r s (record {
       protocol = subst (λ n. range_has r.protocols n ≡ true) (sym parts.1) (range_has-from r.protocols (tried r row) (omega arith) can.1);
       family = subst (λ n. protocol_fits r.family n ≡ true) (sym parts.1) can.2;
@@ -259,14 +271,17 @@ some_shows-from r s shown =
     let le = protocol_le r.family s.protocol parts.family in
     any_in_range (λ protocol. range_has r.protocols protocol && protocol_fits r.family protocol && shows_fields protocol r.source_fields r.destination_fields)
     0 257 s.protocol
-    (and_from _ _ (and_from _ _ parts.protocol parts.family) (shows_fields-from s.protocol r.source_fields r.destination_fields s.source_field s.destination_field parts.fields))
+    (and_from _ _ (and_from _ _ parts.protocol parts.family)
+    (shows_fields-from s.protocol r.source_fields r.destination_fields s.source_field s.destination_field parts.fields))
     (omega arith) (omega (arith, le))
 
 pub some_shows-some : (r : PacketRanges) → shows_in r ≡ true →
     (s : Shown) × (is_shown r s ≡ true)
 unfolding some_shows
 some_shows-some r some =
-    let found = some_in_list (λ protocol. range_has r.protocols protocol && protocol_fits r.family protocol && shows_fields protocol r.source_fields r.destination_fields) all_protocols some in
+    let test : ℕ → Bool = λ protocol.
+    range_has r.protocols protocol && protocol_fits r.family protocol && shows_fields protocol r.source_fields r.destination_fields in
+    let found = some_in_list test all_protocols some in
     let all = and_parts (range_has r.protocols found.0 && protocol_fits r.family found.0) (shows_fields found.0 r.source_fields r.destination_fields) found.1 in
     let protocols = and_parts (range_has r.protocols found.0) (protocol_fits r.family found.0) all.0 in
     let fields = shows_fields-some found.0 r.source_fields r.destination_fields all.1 in

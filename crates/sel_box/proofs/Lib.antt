@@ -5,3 +5,5 @@ pub mod FieldsShown
 pub mod LeastShown
 pub mod BoxPackets
 pub mod PacketOrder
+pub mod RealPoints
+pub mod PiecesByAxes

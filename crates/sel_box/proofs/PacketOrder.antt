@@ -1,8 +1,8 @@
 -- The order of packets is total: number by number, where two numbers are the same the rest decides.
 use Rattle.std.proofs.Common.{◌≡◌, ℕ, Bool, true, false, ◌||◌, nat_le, refl, arith}
 use Rattle.std.proofs.lemmas.Bool.Decides.{nat_tests}
-use Rattle.sel_box.specs.declared.packet.Family.{Family}
-use Rattle.sel_box.specs.declared.packet.Family.TheVariants.{Four, Six}
+use Rattle.sel_text.specs.declared.family.Family.{Family}
+use Rattle.sel_text.specs.declared.family.Family.TheVariants.{Four, Six}
 use Rattle.sel_box.specs.LeastPacket.{IsTotalOrder, at_most_then, packet_at_most, version_of}
 
 then_reflexive : (m : ℕ) (rest : Bool) → rest ≡ true → at_most_then m m rest ≡ true

@@ -1,12 +1,12 @@
 -- Boxes from their bounds.
 use Rattle.std.specs.Prelude.{ℕ, List, [], ◌∷◌, Option, None, option_map}
-use Rattle.sel_region.specs.Interval.{range_on}
-use Rattle.sel_region.specs.Pair.{both}
+use Rattle.sel_region.specs.Interval.{range_on, whole_range}
+use Rattle.sel_region.specs.Pair.{both, pair_of}
 use Rattle.sel_box.specs.declared.any_box.AnyBox.{AnyBox}
 use Rattle.sel_box.specs.declared.any_box.AxisName.{AxisName}
-use Rattle.sel_box.specs.declared.packet.Family.{Family}
+use Rattle.sel_text.specs.declared.family.Family.{Family}
 use Rattle.sel_box.specs.Class.{opaque_field, opaque_protocol}
-use Rattle.sel_box.specs.Packet.{last_address}
+use Rattle.sel_text.specs.Family.{last_address}
 use Rattle.sel_box.specs.Boxes.{Ranges, box_from}
 
 -- The last number of an axis, where addresses have this last one.
@@ -33,3 +33,10 @@ ranges_on address _ = None
 -- The box of a family with these lows and highs.
 abbrev pub box_of : Family → List (ℕ × ℕ) → Option AnyBox
 box_of family bounds = option_map (box_from family) (ranges_on (last_address family) bounds)
+
+-- All points of a family.
+abbrev pub whole_box : Family → AnyBox
+whole_box family =
+    let addresses = whole_range (last_address family) in
+    let fields = whole_range opaque_field in
+    box_from family (pair_of addresses (pair_of addresses (pair_of (whole_range opaque_protocol) (pair_of fields fields))))

@@ -4,7 +4,8 @@ use Rattle.sel_region.specs.Interval.{range_low, range_meet, range_minus, range_
 use Rattle.sel_region.specs.Pair.{pair_at_most, pair_low, pair_meet, pair_minus, pair_within}
 use Rattle.sel_box.specs.declared.any_box.AnyBox.{AnyBox}
 use Rattle.sel_box.specs.Point.{PointFields}
-use Rattle.sel_box.specs.Boxes.{Ranges, Values, values_of, same_family, family_of, ranges_of, box_from}
+use Rattle.sel_box.specs.Boxes.{Ranges, Values, values_of, family_of, ranges_of, box_from}
+use Rattle.sel_text.specs.Family.{same_family}
 
 -- Each of five values is at most the other's.
 abbrev pub values_at_most : Values → Values → Bool

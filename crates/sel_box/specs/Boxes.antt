@@ -1,12 +1,13 @@
 -- Boxes: the points of one family whose five values each lie in a range (RFC 4301 section 4.4.1.1).
-use Rattle.std.specs.Prelude.{ℕ, Bool, true, false, ◌&&◌}
+use Rattle.std.specs.Prelude.{ℕ, Bool, ◌&&◌}
 use Rattle.sel_region.specs.declared.pair.Pair.{Pair}
 use Rattle.sel_region.specs.Interval.{Range, range_has}
 use Rattle.sel_region.specs.Pair.{pair_has}
 use Rattle.sel_box.specs.declared.any_box.AnyBox.{AnyBox}
 use Rattle.sel_box.specs.declared.any_box.AxisName.{AxisName}
-use Rattle.sel_box.specs.declared.packet.Family.{Family}
-use Rattle.sel_box.specs.declared.packet.Family.TheVariants.{Four, Six}
+use Rattle.sel_text.specs.declared.family.Family.{Family}
+use Rattle.sel_text.specs.declared.family.Family.TheVariants.{Four, Six}
+use Rattle.sel_text.specs.Family.{same_family}
 use Rattle.sel_box.specs.Point.{PointFields}
 
 -- Five ranges: local and remote address, protocol, local and remote field.
@@ -20,13 +21,6 @@ Values = ℕ × (ℕ × (ℕ × (ℕ × ℕ)))
 -- The values of a point.
 abbrev pub values_of : PointFields → Values
 values_of x = (x.local, (x.remote, (x.protocol, (x.local_field, x.remote_field))))
-
--- Two families are the same.
-abbrev pub same_family : Family → Family → Bool
-same_family Four Four = true
-same_family Six Six = true
-same_family Four Six = false
-same_family Six Four = false
 
 -- The family of a box, and its ranges.
 abbrev pub family_of : AnyBox → Family

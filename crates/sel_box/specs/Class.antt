@@ -1,5 +1,6 @@
 -- Which fields a protocol's packets show (RFC 4301 section 4.4.1.1; numbers of the IANA registry).
-use Rattle.std.specs.Prelude.{ℕ, Bool, ◌==◌, ◌&&◌, ◌||◌, nat_le, if◌then◌else◌}
+use Rattle.std.specs.Prelude.{ℕ, Bool, true, false, ◌==◌, ◌&&◌, ◌||◌, nat_le, if◌then◌else◌}
+use Rattle.sel_box.specs.declared.form.FieldForm.{FieldForm}
 
 -- An OPAQUE protocol, which isn't available: the number behind the last that a packet can carry.
 abbrev pub opaque_protocol : ℕ
@@ -30,3 +31,16 @@ fields_fit protocol source destination =
     else if has_one_field protocol
     then (nat_le source (greatest_field protocol) || (source == opaque_field)) && (destination == opaque_field)
     else (source == opaque_field) && (destination == opaque_field)
+
+-- What the fields of a protocol's packets are: two ports; the one byte of a Mobility Header type; a type and a code; none.
+abbrev pub form_of : ℕ → FieldForm
+form_of protocol =
+    if has_two_ports protocol then FieldForm.Ports
+    else if protocol == 135 then FieldForm.MobilityType
+    else if has_one_field protocol then FieldForm.TypeCode
+    else FieldForm.NoField
+
+-- The field is a type and a code.
+abbrev pub shows_type_code : FieldForm → Bool
+shows_type_code FieldForm.TypeCode = true
+shows_type_code _ = false

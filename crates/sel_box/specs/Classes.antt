@@ -65,3 +65,26 @@ pub record ShowsItsProtocols (row : ClassRow) : Type 0 where
 pub record AreClasses (rows : List ClassRow) : Type 0 where
   pub parted : (protocol : ℕ) → hits row_has rows protocol ≡ one_if (nat_le protocol opaque_protocol)
   pub shown : All ShowsItsProtocols rows
+
+-- The rows: first and last protocol, what their packets show, and the greatest number of a field.
+unfoldable pub class_rows : List ClassRow
+class_rows =
+    let row : ℕ → ℕ → Shape → ℕ → ClassRow = λ first last shape top. record { first = first; last = last; shape = shape; top = top } in
+    row 0 0 NoField 0
+    ∷ row 1 1 OneField 65535  -- ICMP
+    ∷ row 2 5 NoField 0
+    ∷ row 6 6 TwoPorts 65535  -- TCP
+    ∷ row 7 16 NoField 0
+    ∷ row 17 17 TwoPorts 65535  -- UDP
+    ∷ row 18 32 NoField 0
+    ∷ row 33 33 TwoPorts 65535  -- DCCP
+    ∷ row 34 57 NoField 0
+    ∷ row 58 58 OneField 65535  -- ICMPv6
+    ∷ row 59 131 NoField 0
+    ∷ row 132 132 TwoPorts 65535  -- SCTP
+    ∷ row 133 134 NoField 0
+    ∷ row 135 135 OneField 255  -- Mobility Header
+    ∷ row 136 136 TwoPorts 65535  -- UDP-Lite
+    ∷ row 137 255 NoField 0
+    ∷ row 256 256 NoField 0  -- OPAQUE
+    ∷ []

@@ -5,9 +5,9 @@ pub mod Point
 pub mod Boxes
 pub mod Bounds
 pub mod BoxRegion
-pub mod BoxLaws
 pub mod Swap
 pub mod SomePoint
 pub mod LeastPacket
-pub mod Shown
 pub mod ByAxes
+pub mod laws
+pub mod inner

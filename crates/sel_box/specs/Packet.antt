@@ -1,7 +1,8 @@
 -- What a packet shows to a policy (RFC 4301 section 4.4.1.1).
-use Rattle.std.specs.Prelude.{ℕ, Bool, ◌&&◌, nat_le, ◌^◌, ◌-◌}
-use Rattle.sel_box.specs.declared.packet.Family.{Family}
-use Rattle.sel_box.specs.declared.packet.Family.TheVariants.{Four, Six}
+use Rattle.std.specs.Prelude.{ℕ, Bool, ◌&&◌, nat_le}
+use Rattle.sel_text.specs.declared.family.Family.{Family}
+use Rattle.sel_text.specs.declared.family.Family.TheVariants.{Four, Six}
+use Rattle.sel_text.specs.Family.{last_address}
 use Rattle.sel_box.specs.Class.{fields_fit, opaque_protocol}
 
 -- The values of a packet: its family, both sides, and its protocol with 256, its fields with 65536 for OPAQUE.
@@ -12,11 +13,6 @@ pub record PacketFields : Type 0 where
   pub protocol : ℕ
   pub source_field : ℕ
   pub destination_field : ℕ
-
--- The last address of a family.
-abbrev pub last_address : Family → ℕ
-last_address Four = 2 ^ 32 - 1
-last_address Six = 2 ^ 128 - 1
 
 -- A packet of the family can be of the protocol: 0 to 255, and OPAQUE in IPv6 alone.
 abbrev pub protocol_fits : Family → ℕ → Bool

@@ -2,9 +2,10 @@
 use Rattle.std.specs.Prelude.{◌≡◌, ℕ, Bool, ◌&&◌, ◌||◌, nat_le, IsTrue}
 use Rattle.sel_box.specs.declared.packet.Direction.{Direction}
 use Rattle.sel_box.specs.declared.packet.Direction.TheVariants.{Outbound, Inbound}
-use Rattle.sel_box.specs.declared.packet.Family.{Family}
+use Rattle.sel_text.specs.declared.family.Family.{Family}
 use Rattle.sel_box.specs.Class.{opaque_protocol, opaque_field}
-use Rattle.sel_box.specs.Packet.{PacketFields, is_packet, last_address}
+use Rattle.sel_box.specs.Packet.{PacketFields, is_packet}
+use Rattle.sel_text.specs.Family.{last_address}
 
 -- The values of a point: its family, the local and the remote side, and its protocol.
 pub record PointFields : Type 0 where

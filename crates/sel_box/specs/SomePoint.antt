@@ -5,9 +5,10 @@ use Rattle.std.specs.List.{list_any, range_with_len}
 use Rattle.sel_region.specs.Interval.{Range, range_has}
 use Rattle.sel_box.specs.declared.any_box.AnyBox.{AnyBox}
 use Rattle.sel_box.specs.declared.any_box.AxisName.{AxisName}
-use Rattle.sel_box.specs.declared.packet.Family.{Family}
+use Rattle.sel_text.specs.declared.family.Family.{Family}
 use Rattle.sel_box.specs.Class.{fields_fit, opaque_field, opaque_protocol}
-use Rattle.sel_box.specs.Packet.{last_address, protocol_fits}
+use Rattle.sel_box.specs.Packet.{protocol_fits}
+use Rattle.sel_text.specs.Family.{last_address}
 use Rattle.sel_box.specs.Boxes.{family_of, range_at}
 
 -- Each protocol, OPAQUE being the last.

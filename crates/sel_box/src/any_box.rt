@@ -3,11 +3,12 @@ ghost use Rattle.sel_region.specs.Interval.{high_of};
 ghost use Rattle.sel_box.specs.Boxes.{axis_range};
 ghost use Rattle.sel_box.specs.Bounds.{axis_last, ranges_on};
 
-use crate::packet::Family;
+use crate::class::{OPAQUE_FIELD, OPAQUE_PROTOCOL};
 use sel_region::{Axis, Field, Interval, Pair, Proto, V4, V6};
+use sel_text::Family;
 
-/// The ranges of a box, where addresses are those of the axis `A`: local and remote address, protocol,
-/// local and remote field.
+/// The ranges of a box, where addresses are those of the axis `A`: local and remote address,
+/// protocol, local and remote field.
 pub type Ranges<A> = Pair<
     Interval<A>,
     Pair<Interval<A>, Pair<Interval<Proto>, Pair<Interval<Field>, Interval<Field>>>>,
@@ -27,6 +28,8 @@ pub enum AnyBox {
     Six(Box6),
 }
 
+const _: () = prove!(size_of::<AnyBox>() <= 176);
+
 /// The five selectors, in the order in which boxes have them.
 #[derive(Clone, Copy, Debug, PartialEq, Eq, PartialOrd, Ord, Hash)]
 pub enum AxisName {
@@ -39,7 +42,7 @@ pub enum AxisName {
 
 impl AnyBox {
     ghost use Rattle.sel_box.specs.Boxes.{family_of, range_at};
-    ghost use Rattle.sel_box.specs.Bounds.{box_of, last_on};
+    ghost use Rattle.sel_box.specs.Bounds.{box_of, last_on, whole_box};
 
     /// The box of these bounds, a low and a high on each axis in the order of `AxisName`; `None`
     /// exactly where a low is greater than its high, or a high passes its axis: the family's last
@@ -51,6 +54,19 @@ impl AnyBox {
         match family {
             Family::Four => Some(AnyBox::Four(ranges_between(bounds)?)),
             Family::Six => Some(AnyBox::Six(ranges_between(bounds)?)),
+        }
+    }
+
+    /// All points of a family.
+    pub fn whole(family: Family) -> AnyBox
+        ensures { result ≡ whole_box family }
+    {
+        let addresses = (0, family.last_address());
+        let protocols = (0, u128::from(OPAQUE_PROTOCOL));
+        let fields = (0, u128::from(OPAQUE_FIELD));
+        match AnyBox::new(family, [addresses, addresses, protocols, fields, fields]) {
+            Some(region) => region,
+            None => unreachable!(),
         }
     }
 

@@ -2,15 +2,16 @@ ghost use Rattle.std.specs.Prelude.{◌≡◌};
 ghost use Rattle.sel_box.specs.Boxes.{values_of};
 
 use crate::any_box::{AnyBox, AxisName, Box4, Box6};
-use crate::packet::Family;
 use crate::point::Point;
 use lists::NoMemory;
 use sel_region::{Frame, Region};
+use sel_text::Family;
 
 impl Region for AnyBox {
     ghost use Rattle.sel_box.specs.Boxes.{box_has};
-    ghost use Rattle.sel_box.specs.BoxRegion.{box_at_most, box_low, box_meet, box_within, box_minus};
-    ghost use Rattle.sel_box.specs.BoxLaws.{box_laws};
+    ghost use Rattle.sel_box.specs.BoxRegion.{box_at_most, box_low, box_meet, box_within};
+    ghost use Rattle.sel_box.specs.BoxRegion.{box_minus};
+    ghost use Rattle.sel_box.specs.laws.BoxLaws.{box_laws};
 
     type Point = Point;
 
@@ -33,7 +34,7 @@ impl Region for AnyBox {
         match (self, point.family()) {
             (AnyBox::Four(ranges), Family::Four) => ranges.has(&values(point)),
             (AnyBox::Six(ranges), Family::Six) => ranges.has(&values(point)),
-            (AnyBox::Four(_), Family::Six) | (AnyBox::Six(_), Family::Four) => false,
+            _ => false,
         }
     }
 
@@ -44,7 +45,7 @@ impl Region for AnyBox {
                 others,
             )?)),
             (AnyBox::Six(ranges), AnyBox::Six(others)) => Some(AnyBox::Six(ranges.meet(others)?)),
-            (AnyBox::Four(_), AnyBox::Six(_)) | (AnyBox::Six(_), AnyBox::Four(_)) => None,
+            _ => None,
         }
     }
 
@@ -53,7 +54,7 @@ impl Region for AnyBox {
         match (self, other) {
             (AnyBox::Four(ranges), AnyBox::Four(others)) => ranges.within(others),
             (AnyBox::Six(ranges), AnyBox::Six(others)) => ranges.within(others),
-            (AnyBox::Four(_), AnyBox::Six(_)) | (AnyBox::Six(_), AnyBox::Four(_)) => false,
+            _ => false,
         }
     }
 
@@ -85,7 +86,7 @@ impl Region for AnyBox {
                 ranges.minus_in(others, InBox { frame }, pieces)
             }
             // Boxes of two families don't meet.
-            (AnyBox::Four(_), AnyBox::Six(_)) | (AnyBox::Six(_), AnyBox::Four(_)) => unreachable!(),
+            _ => unreachable!(),
         }
     }
 }
@@ -95,10 +96,13 @@ impl Region for AnyBox {
 fn values(point: &Point) -> (u128, (u128, (u128, (u128, u128))))
     ensures { result ≡ values_of point.now }
 {
-    let fields = (point.local_field() as u128, point.remote_field() as u128);
+    let fields = (
+        u128::from(point.local_field()),
+        u128::from(point.remote_field()),
+    );
     (
         point.local(),
-        (point.remote(), (point.protocol() as u128, fields)),
+        (point.remote(), (u128::from(point.protocol()), fields)),
     )
 }
 
@@ -109,7 +113,7 @@ struct InBox<F> {
 }
 
 impl<F: Frame<AnyBox>> Frame<Box4> for InBox<F> {
-    ghost use Rattle.sel_box.specs.declared.packet.Family.TheVariants.{Four};
+    ghost use Rattle.sel_text.specs.declared.family.Family.TheVariants.{Four};
     ghost use Rattle.sel_box.specs.Boxes.{box_from};
 
     type Whole = F::Whole;
@@ -123,7 +127,7 @@ impl<F: Frame<AnyBox>> Frame<Box4> for InBox<F> {
 }
 
 impl<F: Frame<AnyBox>> Frame<Box6> for InBox<F> {
-    ghost use Rattle.sel_box.specs.declared.packet.Family.TheVariants.{Six};
+    ghost use Rattle.sel_text.specs.declared.family.Family.TheVariants.{Six};
     ghost use Rattle.sel_box.specs.Boxes.{box_from};
 
     type Whole = F::Whole;

@@ -34,8 +34,8 @@ pub struct ClassRow {
 }
 
 impl ClassRow {
-    // Whether packets of the row's protocols can show these fields.
-    pub(crate) fn allows(&self, source: u32, destination: u32) -> bool
+    /// Whether packets of the row's protocols can show these fields.
+    pub fn allows(&self, source: u32, destination: u32) -> bool
         ensures { result ≡ shape_allows self.now.shape self.now.top source destination }
     {
         let opaque = source == OPAQUE_FIELD && destination == OPAQUE_FIELD;
@@ -47,8 +47,8 @@ impl ClassRow {
     }
 }
 
-/// The classes of protocols: rows that part the numbers from 0 to 256 in rising order, each with what
-/// the packets of its protocols show.
+/// The classes of protocols: rows that part the numbers from 0 to 256 in rising order, each with
+/// what the packets of its protocols show.
 #[derive(Clone, Copy, Debug)]
 pub struct Classes<const N: usize> {
     /// The rows, in rising order of protocols.

@@ -1,6 +1,6 @@
 ghost use Rattle.std.specs.Prelude.{◌≡◌, ◌≤◌};
 ghost use Rattle.sel_box.specs.Class.{fields_fit, opaque_protocol};
-ghost use Rattle.sel_box.specs.Classes.{AreClasses};
+ghost use Rattle.sel_box.specs.Classes.{AreClasses, class_rows};
 
 use crate::class::{ClassRow, Classes, Shape};
 
@@ -8,7 +8,8 @@ use crate::class::{ClassRow, Classes, Shape};
 /// (33), ICMPv6 (58), SCTP (132), Mobility Header (135) and UDP-Lite (136), those between them, and
 /// an OPAQUE protocol (256).
 pub fn classes() -> Classes<17>
-    ensures { AreClasses result.rows }
+    ensures rows { result.rows ≡ class_rows }
+    ensures classes { AreClasses result.rows }
 {
     macro_rules! rows {
         ($($first:literal $last:literal $shape:ident $top:literal,)*) => {
@@ -39,7 +40,7 @@ pub fn classes() -> Classes<17>
 }
 
 // Whether a packet of the protocol can show these fields.
-pub(crate) fn allows_fields(protocol: u16, source: u32, destination: u32) -> bool
+pub fn allows_fields(protocol: u16, source: u32, destination: u32) -> bool
     requires { protocol ≤ opaque_protocol }
     ensures { result ≡ fields_fit protocol source destination }
 {

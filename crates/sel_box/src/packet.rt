@@ -1,27 +1,10 @@
-ghost use Rattle.std.specs.Prelude.{◌≡◌, Some, None, if◌then◌else◌};
-ghost use Rattle.sel_box.specs.Packet.{PacketFields, is_packet, protocol_fits, last_address};
+ghost use Rattle.std.specs.Prelude.{◌≡◌, Some, None, IsTrue, if◌then◌else◌};
+ghost use Rattle.sel_box.specs.Packet.{PacketFields, is_packet, protocol_fits};
+ghost use Rattle.sel_text.specs.Family.{last_address};
 
 use crate::{class, class_table};
+use sel_text::Family;
 use std::marker::Model;
-
-/// The two versions of IP.
-#[derive(Clone, Copy, Debug, PartialEq, Eq, PartialOrd, Ord, Hash)]
-pub enum Family {
-    Four,
-    Six,
-}
-
-impl Family {
-    /// The last address of the family, as a number.
-    pub fn last_address(self) -> u128
-        ensures { result ≡ last_address self }
-    {
-        match self {
-            Family::Four => u32::MAX as u128,
-            Family::Six => u128::MAX,
-        }
-    }
-}
 
 /// The way in which a packet passes the gateway: outbound from the protected side, inbound to it
 /// (RFC 4301 section 4.4.1).
@@ -33,7 +16,8 @@ pub enum Direction {
 
 /// What a packet shows to a policy (RFC 4301 section 4.4.1.1). The protocol is 0 to 255, or 256 for
 /// OPAQUE; a field is a port, a type and code, or a Mobility Header type, or 65536 for OPAQUE.
-/// Packets are in order of family, source, destination, protocol, source field and destination field.
+/// Packets are in order of family, source, destination, protocol, source field and destination
+/// field.
 #[derive(Clone, Copy, Debug, PartialEq, Eq, PartialOrd, Ord)]
 pub struct Packet {
     family: Family,
@@ -45,7 +29,8 @@ pub struct Packet {
 }
 
 impl Model for Packet {
-    ghost use Rattle.sel_box.specs.Packet.{PacketFields};
+    ghost use Rattle.std.specs.Prelude.{IsTrue};
+    ghost use Rattle.sel_box.specs.Packet.{PacketFields, is_packet};
 
     ghost Value = { PacketFields };
 
@@ -66,14 +51,24 @@ impl Model for Packet {
       source_field = p.source_field;
       destination_field = p.destination_field;
     } };
+
+    ghost invariant = { λ p. IsTrue (is_packet (record {
+      family = p.family;
+      source = p.source;
+      destination = p.destination;
+      protocol = p.protocol;
+      source_field = p.source_field;
+      destination_field = p.destination_field;
+    })) };
 }
 
 impl Packet {
     /// The packet of these values; `None` exactly where no packet shows them: an address passes the
-    /// family's last, an OPAQUE protocol stands in IPv4, or the protocol's class forbids the fields.
-    /// A two-port protocol (6, 17, 33, 132, 136) has two numbers up to 65535 or two OPAQUE fields. A
-    /// one-field protocol (1, 58, 135) has an OPAQUE destination field, and as source field OPAQUE or
-    /// a number up to 65535, for 135 up to 255. Every other protocol has two OPAQUE fields.
+    /// family's last, an OPAQUE protocol stands in IPv4, or the protocol's class forbids the
+    /// fields. A two-port protocol (6, 17, 33, 132, 136) has two numbers up to 65535 or two OPAQUE
+    /// fields. A one-field protocol (1, 58, 135) has an OPAQUE destination field, and as source
+    /// field OPAQUE or a number up to 65535, for 135 up to 255. Every other protocol has two OPAQUE
+    /// fields.
     pub fn new(
         family: Family,
         source: u128,
@@ -111,10 +106,11 @@ impl Packet {
         }
     }
 
-    /// The version of IP.
+    /// The version of IP. All values together are those of a packet.
     #[inline]
     pub fn family(&self) -> Family
-        ensures { result ≡ self.now.family }
+        ensures value { result ≡ self.now.family }
+        ensures packet { IsTrue (is_packet self.now) }
     {
         self.family
     }
@@ -161,7 +157,7 @@ impl Packet {
 }
 
 // Whether a packet of the family can be of the protocol.
-pub(crate) fn allows_protocol(family: Family, protocol: u16) -> bool
+pub fn allows_protocol(family: Family, protocol: u16) -> bool
     ensures { result ≡ protocol_fits family protocol }
 {
     match family {

@@ -1,8 +1,9 @@
-ghost use Rattle.std.specs.Prelude.{◌≡◌, Some, None, if◌then◌else◌};
-ghost use Rattle.sel_box.specs.Point.{PointFields, is_point, view_of};
+ghost use Rattle.std.specs.Prelude.{◌≡◌, Some, None, IsTrue, if◌then◌else◌};
+ghost use Rattle.sel_box.specs.Point.{IsReal, PointFields, is_point, view_of};
 
 use crate::class;
-use crate::packet::{Direction, Family, Packet};
+use crate::packet::{Direction, Packet};
+use sel_text::Family;
 use std::marker::Model;
 
 /// What a policy sees of a packet in one direction (RFC 4301 section 4.4.1): the local side, the
@@ -18,7 +19,8 @@ pub struct Point {
 }
 
 impl Model for Point {
-    ghost use Rattle.sel_box.specs.Point.{PointFields};
+    ghost use Rattle.std.specs.Prelude.{IsTrue};
+    ghost use Rattle.sel_box.specs.Point.{PointFields, is_point};
 
     ghost Value = { PointFields };
 
@@ -39,6 +41,15 @@ impl Model for Point {
       local_field = x.local_field;
       remote_field = x.remote_field;
     } };
+
+    ghost invariant = { λ x. IsTrue (is_point (record {
+      family = x.family;
+      local = x.local;
+      remote = x.remote;
+      protocol = x.protocol;
+      local_field = x.local_field;
+      remote_field = x.remote_field;
+    })) };
 }
 
 impl Point {
@@ -82,10 +93,11 @@ impl Point {
         }
     }
 
-    /// The version of IP.
+    /// The version of IP. All values together are those of a point.
     #[inline]
     pub fn family(&self) -> Family
-        ensures { result ≡ self.now.family }
+        ensures value { result ≡ self.now.family }
+        ensures point { IsTrue (is_point self.now) }
     {
         self.family
     }
@@ -132,10 +144,11 @@ impl Point {
 }
 
 /// The point at which a policy judges the packet in that direction: outbound the source side is
-/// local, inbound the destination side.
+/// local, inbound the destination side. It is a real point.
 #[inline]
 pub fn view(direction: Direction, packet: &Packet) -> Point
-    ensures { result ≡ view_of direction packet.now }
+    ensures value { result ≡ view_of direction packet.now }
+    ensures real { IsReal (view_of direction packet.now) }
 {
     match direction {
         Direction::Outbound => Point {
@@ -154,78 +167,5 @@ pub fn view(direction: Direction, packet: &Packet) -> Point
             local_field: packet.destination_field(),
             remote_field: packet.source_field(),
         },
-    }
-}
-
-#[cfg(test)]
-mod tests {
-    use super::*;
-
-    const V4: u128 = 4_294_967_295;
-
-    #[test]
-    fn keeps_to_the_table_of_classes(rt: HostRuntime) {
-        let rows = [
-            (Family::Four, V4, 0, 65536, 65536, true),
-            (Family::Four, V4 + 1, 0, 65536, 65536, false),
-            (Family::Six, u128::MAX, 0, 65536, 65536, true),
-            (Family::Four, 0, 0, 0, 65536, false),
-            (Family::Four, 0, 1, 65535, 65536, true),
-            (Family::Four, 0, 1, 65536, 65536, true),
-            (Family::Four, 0, 1, 65535, 0, false),
-            (Family::Four, 0, 6, 0, 65535, true),
-            (Family::Four, 0, 6, 65536, 65536, true),
-            (Family::Four, 0, 6, 65536, 443, false),
-            (Family::Four, 0, 6, 443, 65536, false),
-            (Family::Six, 0, 58, 32768, 65536, true),
-            (Family::Six, 0, 58, 65537, 65536, false),
-            (Family::Six, 0, 135, 255, 65536, true),
-            (Family::Six, 0, 135, 256, 65536, false),
-            (Family::Four, 0, 50, 65536, 65536, true),
-            (Family::Four, 0, 51, 0, 0, false),
-            (Family::Four, 0, 136, 1, 2, true),
-            (Family::Four, 0, 137, 1, 2, false),
-            (Family::Six, 0, 256, 65536, 65536, true),
-            (Family::Four, 0, 256, 65536, 65536, false),
-            (Family::Six, 0, 257, 65536, 65536, false),
-        ];
-        for (family, source, protocol, source_field, destination_field, is_packet) in rows {
-            let packet = Packet::new(family, source, 0, protocol, source_field, destination_field);
-            assert_eq!(rt;
-                packet.is_some(),
-                is_packet,
-                "protocol {protocol}, {source_field}, {destination_field}"
-            );
-        }
-    }
-
-    #[test]
-    fn views_a_packet_from_both_sides(rt: HostRuntime) {
-        let packet = Packet::new(Family::Four, 1, 2, 6, 40000, 443).expect(&rt, "a packet");
-        let outbound = Point::new(Family::Four, 1, 2, 6, 40000, 443);
-        let inbound = Point::new(Family::Four, 2, 1, 6, 443, 40000);
-        assert_eq!(rt; Some(view(Direction::Outbound, &packet)), outbound);
-        assert_eq!(rt; Some(view(Direction::Inbound, &packet)), inbound);
-        assert!(rt; Point::new(Family::Four, 0, 0, 257, 0, 0).is_none());
-    }
-
-    #[test]
-    fn gives_back_its_values(rt: HostRuntime) {
-        let packet = Packet::new(Family::Six, 1, 2, 17, 3, 4).expect(&rt, "a packet");
-        assert_eq!(rt; packet.family(), Family::Six);
-        assert_eq!(rt;
-            (packet.source(), packet.destination(), packet.protocol()),
-            (1, 2, 17)
-        );
-        assert_eq!(rt; (packet.source_field(), packet.destination_field()), (3, 4));
-        let point = view(Direction::Outbound, &packet);
-        assert_eq!(rt;
-            (point.family(), point.local(), point.remote()),
-            (Family::Six, 1, 2)
-        );
-        assert_eq!(rt;
-            (point.protocol(), point.local_field(), point.remote_field()),
-            (17, 3, 4)
-        );
     }
 }

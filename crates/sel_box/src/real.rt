@@ -26,7 +26,8 @@ pub fn is_real(point: &Point) -> bool
 #[tactic(auto, unfolding(crate::specs::SomePoint::has_real_point))]
 pub fn has_real(region: &AnyBox) -> bool
     ensures test { result ≡ has_real_point region.now }
-    ensures real { IsTrue result ↔ ((x : PointFields) × (IsTrue (box_has region.now x)) × IsReal x) }
+    ensures real { IsTrue result ↔
+        ((x : PointFields) × (IsTrue (box_has region.now x)) × IsReal x) }
 {
     PacketRanges::outbound(region).show_some() || PacketRanges::inbound(region).show_some()
 }
@@ -35,7 +36,7 @@ pub fn has_real(region: &AnyBox) -> bool
 fn is_view(direction: Direction, point: &Point) -> bool
     ensures { result ≡ is_packet (packet_at direction point.now) }
 {
-    let packet = match direction {
+    match direction {
         Direction::Outbound => Packet::new(
             point.family(),
             point.local(),
@@ -43,7 +44,8 @@ fn is_view(direction: Direction, point: &Point) -> bool
             point.protocol(),
             point.local_field(),
             point.remote_field(),
-        ),
+        )
+        .is_some(),
         Direction::Inbound => Packet::new(
             point.family(),
             point.remote(),
@@ -51,7 +53,7 @@ fn is_view(direction: Direction, point: &Point) -> bool
             point.protocol(),
             point.remote_field(),
             point.local_field(),
-        ),
-    };
-    packet.is_some()
+        )
+        .is_some(),
+    }
 }

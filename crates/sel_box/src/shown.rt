@@ -4,13 +4,14 @@ ghost use Rattle.sel_box.specs.Boxes.{ranges_of};
 use crate::any_box::{AnyBox, AxisName};
 use crate::class::{ClassRow, OPAQUE_FIELD};
 use crate::class_table::classes;
-use crate::packet::{Family, allows_protocol};
+use crate::packet::allows_protocol;
 use sel_region::{Field, Interval, Pair, Proto, Region};
+use sel_text::Family;
 
-// What a packet has to show to be seen in a box, of which it has the least addresses: its protocol and
-// its fields lie in these ranges.
+// What a packet has to show to be seen in a box, of which it has the least addresses: its protocol
+// and its fields lie in these ranges.
 #[derive(Clone, Copy)]
-pub(crate) struct PacketRanges {
+pub struct PacketRanges {
     pub family: Family,
     pub source: u128,
     pub destination: u128,
@@ -21,7 +22,7 @@ pub(crate) struct PacketRanges {
 
 // What a packet shows beside its addresses.
 #[derive(Clone, Copy)]
-pub(crate) struct Shown {
+pub struct Shown {
     pub protocol: u16,
     pub source_field: u32,
     pub destination_field: u32,
@@ -30,7 +31,9 @@ pub(crate) struct Shown {
 impl PacketRanges {
     ghost use Rattle.std.specs.Prelude.{true, false, IfSome, IfNone, is_some};
     ghost use Rattle.sel_box.specs.Classes.{shape_allows};
-    ghost use Rattle.sel_box.specs.Shown.{HasNoneShown, IsLeastShown, inbound_ranges, least_fields, outbound_ranges, row_shows, rows_show, shows_in};
+    ghost use Rattle.sel_box.specs.inner.Shown.{HasNoneShown, IsLeastShown, inbound_ranges};
+    ghost use Rattle.sel_box.specs.inner.Shown.{least_fields, outbound_ranges, row_shows};
+    ghost use Rattle.sel_box.specs.inner.Shown.{rows_show, shows_in};
     ghost use Rattle.sel_box.specs.SomePoint.{has_addresses};
 
     // Those of the box for a packet that goes out.

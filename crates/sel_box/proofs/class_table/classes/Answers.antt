@@ -1,13 +1,16 @@
--- The 17 rows pass the test.
 use Rattle.std.proofs.Common.{refl}
-use Rattle.sel_box.specs.Classes.{are_classes, row_is_right, rows_follow}
-use Rattle.sel_box.proofs.ClassRows.{AreClasses-from_test}
+use Rattle.sel_box.specs.Classes.{class_rows}
+use Rattle.sel_box.proofs.ClassRows.{AreClasses-from_test, class_rows-right}
 use Rattle.sel_box.proofs.class_table.classes.Goals as goal
 
 pub invariant_of-result : goal.invariant_of-result
-unfolding are_classes row_is_right rows_follow
-invariant_of-result c = record { parted = refl }
+unfolding class_rows
+invariant_of-result c = record { parted = class_rows-right }
 
-pub returns : goal.returns
-unfolding are_classes row_is_right rows_follow
-returns c = AreClasses-from_test _ refl
+pub returns-clause-rows : goal.returns-clause-rows
+unfolding class_rows
+returns-clause-rows c = refl
+
+pub returns-clause-classes : goal.returns-clause-classes
+unfolding class_rows
+returns-clause-classes c = AreClasses-from_test _ class_rows-right

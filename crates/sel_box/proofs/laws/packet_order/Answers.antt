@@ -4,8 +4,8 @@ use Rattle.std.proofs.lemmas.Bool.Decides.{nat_tests}
 use Rattle.std.specs.Ordering.{is_le, nat_cmp, ordering_then}
 use Rattle.std.specs.declared.cmp.Ordering.{Ordering}
 use Rattle.sel_box.specs.contracts.packet.PacketOrd.TheImpl as packet_ord
-use Rattle.sel_box.specs.declared.packet.Family.{Family}
-use Rattle.sel_box.specs.declared.packet.Family.TheVariants.{Four, Six}
+use Rattle.sel_text.specs.declared.family.Family.{Family}
+use Rattle.sel_text.specs.declared.family.Family.TheVariants.{Four, Six}
 use Rattle.sel_box.specs.LeastPacket.{at_most_then, packet_at_most}
 use Rattle.sel_box.specs.Packet.{PacketFields}
 use Rattle.sel_box.proofs.PacketOrder.{packet_order}
@@ -49,7 +49,9 @@ returns-clause-order c = packet_order
 pub returns-clause-compared : goal.returns-clause-compared
 returns-clause-compared c =
     λ p q.
-    by_families (λ f g. is_le ((packet_ord.ghosts).cmp (record p { family = f }) (record q { family = g })) ≡ packet_at_most (record p { family = f }) (record q { family = g }))
+    by_families (λ f g.
+    is_le ((packet_ord.ghosts).cmp (record p { family = f }) (record q { family = g }))
+    ≡ packet_at_most (record p { family = f }) (record q { family = g }))
     (values_compared p q) refl refl (values_compared p q) p.family q.family
 
 pub returns-clause-one_least : goal.returns-clause-one_least

@@ -2,7 +2,7 @@
 use Rattle.std.proofs.Common.{◌≡◌, Option, Some, is_some, IfSome, IfNone, sym, ap, ◌∙◌, subst}
 use Rattle.sel_box.specs.LeastPacket.{HasNoPacket, IsLeastPacket}
 use Rattle.sel_box.specs.Packet.{PacketFields}
-use Rattle.sel_box.specs.Shown.{HasNoneShown, IsLeastShown, outbound_ranges}
+use Rattle.sel_box.specs.inner.Shown.{HasNoneShown, IsLeastShown, outbound_ranges}
 use Rattle.sel_box.specs.declared.shown.PacketRanges.{PacketRanges}
 use Rattle.sel_box.proofs.BoxPackets.{HasNoPacket-from_shown, IsLeastPacket-from_shown, found_packet, has_packet-from, has_packet-none, packet_of}
 use Rattle.sel_box.proofs.least.least_packet.Goals as goal

@@ -9,9 +9,11 @@ use Rattle.sel_box.proofs.real.is_real.Goals as goal
 pub returns-then-is_view-clause-real : goal.returns-then-is_view-clause-real
 returns-then-is_view-clause-real c =
     real_point-real c.is_view.result c.args.point.now
-    (or_first (is_packet (packet_at Outbound c.args.point.now)) (is_packet (packet_at Inbound c.args.point.now)) c.is_view.result c.is_view.ensures c.if-is_view.true)
+    (or_first (is_packet (packet_at Outbound c.args.point.now)) (is_packet (packet_at Inbound c.args.point.now))
+    c.is_view.result c.is_view.ensures c.if-is_view.true)
 
 pub returns-else-is_view-clause-real : goal.returns-else-is_view-clause-real
 returns-else-is_view-clause-real c =
     real_point-real c.is_view-else-is_view.result c.args.point.now
-    (or_second (is_packet (packet_at Outbound c.args.point.now)) (is_packet (packet_at Inbound c.args.point.now)) c.is_view.result c.is_view-else-is_view.result c.is_view.ensures c.if-is_view.false c.is_view-else-is_view.ensures)
+    (or_second (is_packet (packet_at Outbound c.args.point.now)) (is_packet (packet_at Inbound c.args.point.now))
+    c.is_view.result c.is_view-else-is_view.result c.is_view.ensures c.if-is_view.false c.is_view-else-is_view.ensures)

@@ -46,9 +46,12 @@ returns-then-protocol-row-clause-fields g c =
 pub loop-row-preserved : goal.loop-row-preserved
 loop-row-preserved g c =
     let row = get_or c.args.self.now.rows c.loop-row.row-index no_row in
-    let after = rows_follow-at c.args.self.now.rows c.loop-row.row-index no_row c.loop-row.invariant.0 c.args.protocol (search rules) c.loop-row.invariant.1 c.loop-row.invariant.2 in
+    let after =
+    rows_follow-at c.args.self.now.rows c.loop-row.row-index no_row c.loop-row.invariant.0 c.args.protocol (search rules)
+    c.loop-row.invariant.1 c.loop-row.invariant.2 in
     (row.last + 1, omega (arith, c.if-protocol-row.false), after.1)
 
 pub unreachable-requires : goal.unreachable-requires
 unreachable-requires g c =
-    rows_follow-none_left c.args.self.now.rows c.loop-row.row-index c.loop-row.invariant.0 c.args.protocol (search rules) c.loop-row.invariant.1 c.requires c.loop-row.invariant.2
+    rows_follow-none_left c.args.self.now.rows c.loop-row.row-index c.loop-row.invariant.0 c.args.protocol (search rules)
+    c.loop-row.invariant.1 c.requires c.loop-row.invariant.2

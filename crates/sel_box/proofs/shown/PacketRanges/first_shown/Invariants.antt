@@ -1,6 +1,6 @@
 -- The rows before show nothing.
 use Rattle.std.proofs.Common.{◌≡◌, drop}
-use Rattle.sel_box.specs.Shown.{rows_show}
+use Rattle.sel_box.specs.inner.Shown.{rows_show}
 use Rattle.sel_box.proofs.shown.PacketRanges.first_shown.Given as goal
 
 abbrev pub invariant-loop-row : goal.invariant-loop-row

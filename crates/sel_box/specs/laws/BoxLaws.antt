@@ -4,14 +4,15 @@ use Rattle.std.specs.Option.{option_map}
 use Rattle.std.proofs.Math.Bool.{and_comm}
 use Rattle.std.proofs.lemmas.Bool.{both_ways, and_parts, and_from}
 use Rattle.sel_region.specs.Region.{one_if, hits, some_has, AllInside, SomeOutside, IsOrder, IsRegion}
-use Rattle.sel_region.specs.IntervalLaws.{range_laws}
-use Rattle.sel_region.specs.PairLaws.{pair_laws}
-use Rattle.sel_region.specs.RegionLemmas.{hits-map, IsRegion-from_hits}
+use Rattle.sel_region.specs.laws.IntervalLaws.{range_laws}
+use Rattle.sel_region.specs.laws.PairLaws.{pair_laws}
+use Rattle.sel_region.specs.laws.RegionLemmas.{hits-map, IsRegion-from_hits}
 use Rattle.sel_box.specs.declared.any_box.AnyBox.{AnyBox}
-use Rattle.sel_box.specs.declared.packet.Family.{Family}
-use Rattle.sel_box.specs.declared.packet.Family.TheVariants.{Four, Six}
+use Rattle.sel_text.specs.declared.family.Family.{Family}
+use Rattle.sel_text.specs.declared.family.Family.TheVariants.{Four, Six}
 use Rattle.sel_box.specs.Point.{PointFields}
-use Rattle.sel_box.specs.Boxes.{Ranges, Values, values_of, same_family, family_of, ranges_of, box_from, ranges_have, box_has}
+use Rattle.sel_box.specs.Boxes.{Ranges, Values, values_of, family_of, ranges_of, box_from, ranges_have, box_has}
+use Rattle.sel_text.specs.Family.{same_family}
 use Rattle.sel_box.specs.BoxRegion.{values_at_most, ranges_low, ranges_meet, ranges_within, ranges_minus, box_at_most, box_low, box_meet, box_within, box_minus}
 
 -- Five ranges are a region of five values.
