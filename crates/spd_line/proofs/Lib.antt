@@ -1,3 +1,10 @@
+pub mod Compared
+pub mod FinalLaws
+pub mod LineBoxCount
+pub mod LineBoxJudged
+pub mod LineBoxLaws
 pub mod Listed
 pub mod Places
+pub mod ProductLaws
 pub mod Saturated
+pub mod Sound

@@ -1,20 +1,17 @@
 -- How the boxes of a line come into their lists, one range and one product after another.
-use Rattle.std.proofs.Common.{◌≡◌, ℕ, ◌+◌, ◌-◌, ◌<◌, min, Bool, true, false, nat_le, List, [], ◌∷◌, ◌++◌, map, flat_map, take, get_or, length, cond, Some, None, ◌&&◌, refl, sym, ap, ◌∙◌, arith}
+use Rattle.std.proofs.Common.{◌≡◌, ℕ, ◌+◌, ◌-◌, ◌<◌, min, Bool, true, false, nat_le, List, [], ◌∷◌, ◌++◌}
+use Rattle.std.proofs.Common.{map, flat_map, take, get_or, length, cond, Some, None, ◌&&◌, refl, ap, ◌∙◌, arith}
 use Rattle.std.specs.Option.{option_to_list}
 use Rattle.std.proofs.lemmas.Bool.Decides.{nat_tests}
-use Rattle.std.proofs.lemmas.List.{append-nil, map-append, nil_from_length, take_more}
+use Rattle.std.proofs.lemmas.List.{append-nil, nil_from_length, take_more}
 use Rattle.std.proofs.lemmas.List.Concat.{flat_map-append}
 use Rattle.sel_region.specs.Interval.{range_from, range_on}
 use Rattle.sel_region.specs.Pair.{pair_of}
 use Rattle.sel_region.specs.declared.pair.Pair.{Pair}
 use Rattle.sel_box.specs.Class.{opaque_field}
-use Rattle.sel_box.specs.declared.any_box.AnyBox.{AnyBox}
-use Rattle.sel_box.specs.declared.packet.Direction.{Direction}
-use Rattle.sel_box.specs.declared.packet.Family.{Family}
-use Rattle.sel_box.specs.declared.packet.Family.TheVariants.{Four, Six}
+use Rattle.sel_text.specs.declared.family.Family.{Family}
 use Rattle.spd_line.specs.declared.line.LineParts.{LineParts}
-use Rattle.spd_line.specs.LineBoxes.{address_ranges, line_box, line_boxes, line_ranges, ordered_range, products}
-use Rattle.spd_line.specs.Selects.{goes}
+use Rattle.spd_line.specs.LineBoxes.{address_ranges, line_ranges, ordered_range, products}
 
 -- The range of numbers that are below OPAQUE.
 pub range_on_fields : (first last : ℕ) → last < opaque_field →
@@ -45,11 +42,3 @@ pub line_ranges-without_local : (family : Family) (line : LineParts) → length 
 unfolding line_ranges products
 line_ranges-without_local family line none =
     rw (nil_from_length (flat_map (address_ranges family) line.local) none) refl
-
--- The boxes of IPv4, and after them those of IPv6.
-pub line_boxes-from : (d : Direction) (line : LineParts) → goes line.way d ≡ true →
-    map (line_box d line) (map AnyBox.Four (line_ranges Four line)) ++ map (line_box d line) (map AnyBox.Six (line_ranges Six line))
-    ≡ line_boxes d line
-line_boxes-from d line goes_there =
-    rw goes_there
-    (sym (map-append (line_box d line) (map AnyBox.Four (line_ranges Four line)) (map AnyBox.Six (line_ranges Six line))))

@@ -18,5 +18,6 @@ pub saturated-left : (a b m : ℕ) → min (min a m * b) m ≡ min (a * b) m
 saturated-left a b m = rw (mul_comm (min a m) b, mul_comm a b) (saturated-right b a m)
 
 -- So the count of boxes, of which each factor and each product is saturated.
-pub saturated_boxes : (pairs protocol local remote m : ℕ) → min (min pairs m * min (protocol * min (min local m * min remote m) m) m) m ≡ min (pairs * (protocol * (local * remote))) m
+pub saturated_boxes : (pairs protocol local remote m : ℕ) →
+    min (min pairs m * min (protocol * min (min local m * min remote m) m) m) m ≡ min (pairs * (protocol * (local * remote))) m
 saturated_boxes pairs protocol local remote m = simp (saturated-left, saturated-right)

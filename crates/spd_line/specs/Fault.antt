@@ -1,5 +1,6 @@
 -- Why some parts make no line (RFC 4301 section 4.4.1).
-use Rattle.std.specs.Prelude.{ℕ, Bool, true, false, not, nat_lt, codes, List, Option, Some, None, if◌then◌else◌}
+use Rattle.std.specs.Prelude.{ℕ, Bool, false, not, ◌&&◌, nat_lt, codes, List, Option, Some, None, if◌then◌else◌}
+use Rattle.sel_box.specs.declared.packet.Direction.TheVariants.{Outbound, Inbound}
 use Rattle.spd_line.specs.declared.action.Action.{Action}
 use Rattle.spd_line.specs.declared.action.Mode.{Mode}
 use Rattle.spd_line.specs.declared.fault.LineFault.{LineFault}
@@ -7,41 +8,35 @@ use Rattle.spd_line.specs.declared.line.LineParts.{LineParts}
 use Rattle.spd_line.specs.declared.line.Way.{Way}
 use Rattle.spd_line.specs.Families.{families_differ, shares_family}
 use Rattle.spd_line.specs.Ports.{flags_no_field, flags_opaque, ports_fit}
+use Rattle.spd_line.specs.Selects.{has_direction}
 use Rattle.spd_line.specs.Width.{box_count}
 
 -- What is printed of a fault.
-abbrev pub fault_text : LineFault → List ℕ
-fault_text LineFault.ProtectOneWay = codes "protect one way"
-fault_text LineFault.GateFamily = codes "gate family"
-fault_text LineFault.NoFamily = codes "no family"
-fault_text LineFault.PortNoProtocol = codes "port no protocol"
-fault_text LineFault.PfpNoField = codes "pfp no field"
-fault_text LineFault.PfpOpaque = codes "pfp opaque"
-fault_text LineFault.TooWide = codes "too wide"
+abbrev pub line_fault_text : LineFault → List ℕ
+line_fault_text LineFault.ProtectOneWay = codes "protect one way"
+line_fault_text LineFault.GateFamily = codes "gate family"
+line_fault_text LineFault.NoFamily = codes "no family"
+line_fault_text LineFault.PortNoProtocol = codes "port no protocol"
+line_fault_text LineFault.PfpNoField = codes "pfp no field"
+line_fault_text LineFault.PfpOpaque = codes "pfp opaque"
+line_fault_text LineFault.TooWide = codes "too wide"
 
--- A PROTECT line is looked at in both directions.
-abbrev pub goes_both_ways : Way → Bool
-goes_both_ways Way.Both = true
-goes_both_ways Way.Outbound = false
-goes_both_ways Way.Inbound = false
-
+-- A PROTECT line is looked at in one direction alone.
 abbrev pub protects_one_way : Action → Way → Bool
-protects_one_way Action.Discard way = false
-protects_one_way Action.Bypass way = false
-protects_one_way (Action.Protect ipsec mode) way = not (goes_both_ways way)
+protects_one_way (Action.Protect ipsec mode) way = not (has_direction way Outbound && has_direction way Inbound)
+protects_one_way _ way = false
 
+-- The two gates of a tunnel are of different families.
 abbrev pub mixes_gates : Action → Bool
 mixes_gates (Action.Protect ipsec (Mode.Tunnel local remote)) = families_differ local remote
-mixes_gates (Action.Protect ipsec Mode.Transport) = false
-mixes_gates Action.Discard = false
-mixes_gates Action.Bypass = false
+mixes_gates _ = false
 
 -- A line has at most 4,096 boxes.
 abbrev pub is_too_wide : LineParts → Bool
 is_too_wide parts = nat_lt 4096 (box_count parts)
 
 -- The fault of some parts: the first in this order.
-abbrev pub line_fault : LineParts → Option LineFault
+unfoldable pub line_fault : LineParts → Option LineFault
 line_fault parts =
     if protects_one_way parts.action parts.way then Some LineFault.ProtectOneWay
     else if mixes_gates parts.action then Some LineFault.GateFamily

@@ -1,11 +1,12 @@
 -- The first line of an ordered policy that selects a point decides it (RFC 4301 sections 4.4.1 and 5).
-use Rattle.std.specs.Prelude.{ℕ, zero, suc, ◌+◌, Option, Some, None, codes, List, [], ◌∷◌, if◌then◌else◌, slice_get}
+use Rattle.std.specs.Prelude.{ℕ, zero, suc, ◌+◌, Option, Some, None, List, [], ◌∷◌, if◌then◌else◌, slice_get}
 use Rattle.sel_box.specs.declared.packet.Direction.{Direction}
 use Rattle.sel_box.specs.Point.{PointFields}
 use Rattle.spd_line.specs.declared.judgement.Judgement.{Judgement}
 use Rattle.spd_line.specs.declared.judgement.Verdict.{Verdict}
 use Rattle.spd_line.specs.declared.line.LineParts.{LineParts}
 use Rattle.spd_line.specs.Judged.{judged}
+use Rattle.spd_line.specs.Policy.{final_name}
 use Rattle.spd_line.specs.Selects.{selects}
 
 -- The line at a place, counted from 1.
@@ -31,7 +32,7 @@ verdict_of d x lines =
 
 -- The name of a line, and of `final` where there is none.
 abbrev pub name_of_line : Option LineParts → List ℕ
-name_of_line None = codes "final"
+name_of_line None = final_name
 name_of_line (Some line) = line.name
 
 -- The name of the line at a place, `final` behind the last.

@@ -6,21 +6,22 @@ use Rattle.sel_region.specs.Interval.{Range, range_from, whole_range}
 use Rattle.sel_region.specs.Pair.{pair_of}
 use Rattle.sel_box.specs.declared.any_box.AnyBox.{AnyBox}
 use Rattle.sel_box.specs.declared.packet.Direction.{Direction}
-use Rattle.sel_box.specs.declared.packet.Family.{Family}
-use Rattle.sel_box.specs.declared.packet.Family.TheVariants.{Four, Six}
+use Rattle.sel_text.specs.declared.family.Family.{Family}
+use Rattle.sel_text.specs.declared.family.Family.TheVariants.{Four, Six}
 use Rattle.sel_box.specs.BoxRegion.{box_low}
+use Rattle.sel_box.specs.Bounds.{whole_box}
 use Rattle.sel_box.specs.Boxes.{Ranges, box_from}
 use Rattle.sel_box.specs.Class.{opaque_field, opaque_protocol}
-use Rattle.sel_box.specs.Packet.{last_address}
-use Rattle.sel_text.specs.declared.address.Address.{Address}
+use Rattle.sel_text.specs.Family.{address_value, last_address}
 use Rattle.sel_text.specs.declared.item.AddressItem.{AddressItem}
 use Rattle.sel_text.specs.declared.port.PortItem.{PortItem}
 use Rattle.spd_line.specs.declared.line_boxes.LineBox.{LineBox}
 use Rattle.spd_line.specs.declared.judgement.Judgement.{Judgement}
 use Rattle.spd_line.specs.declared.line.LineParts.{LineParts}
 use Rattle.spd_line.specs.declared.line.ProtocolItem.{ProtocolItem}
+use Rattle.spd_line.specs.Families.{is_range_of}
 use Rattle.spd_line.specs.Judged.{judged}
-use Rattle.spd_line.specs.Selects.{goes}
+use Rattle.spd_line.specs.Selects.{has_direction}
 
 -- The range from a first number up to a last, where they are in order.
 abbrev pub ordered_range : ℕ → ℕ → List Range
@@ -29,9 +30,8 @@ ordered_range first last = if nat_le first last then range_from first last ∷ [
 -- The ranges of an address item in a family: ANY is all addresses of each.
 abbrev pub address_ranges : Family → AddressItem → List Range
 address_ranges family AddressItem.Any = whole_range (last_address family) ∷ []
-address_ranges Four (AddressItem.Range (Address.Four first) (Address.Four last)) = ordered_range first last
-address_ranges Six (AddressItem.Range (Address.Six first) (Address.Six last)) = ordered_range first last
-address_ranges _ (AddressItem.Range _ _) = []
+address_ranges family (AddressItem.Range first last) =
+    if is_range_of family first last then ordered_range (address_value first) (address_value last) else []
 
 -- ANY, with OPAQUE as its last number. Where it is flagged, its other numbers stand apart from OPAQUE,
 -- of which no packet has a value to populate from.
@@ -82,14 +82,7 @@ line_box d line b = record { region = b; judgement = judged d (box_low b) line }
 
 -- The boxes of a line in a direction, each with its judgement; none where the line lacks the direction.
 abbrev pub line_boxes : Direction → LineParts → List LineBox
-line_boxes d line = if goes line.way d then map (line_box d line) (line_regions line) else []
-
--- All points of a family.
-abbrev pub whole_box : Family → AnyBox
-whole_box family =
-    let addresses = whole_range (last_address family) in
-    let fields = whole_range opaque_field in
-    box_from family (pair_of addresses (pair_of addresses (pair_of (whole_range opaque_protocol) (pair_of fields fields))))
+line_boxes d line = if has_direction line.way d then map (line_box d line) (line_regions line) else []
 
 -- What `final`, the line behind the last, discards: all points of either family.
 abbrev pub final_list : List LineBox

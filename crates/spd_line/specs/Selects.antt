@@ -3,24 +3,23 @@ use Rattle.std.specs.Prelude.{ℕ, Bool, true, false, ◌==◌, ◌&&◌, nat_le
 use Rattle.std.specs.List.{list_any}
 use Rattle.sel_box.specs.declared.packet.Direction.{Direction}
 use Rattle.sel_box.specs.declared.packet.Direction.TheVariants.{Outbound, Inbound}
-use Rattle.sel_box.specs.declared.packet.Family.{Family}
-use Rattle.sel_box.specs.declared.packet.Family.TheVariants.{Four, Six}
+use Rattle.sel_text.specs.declared.family.Family.{Family}
 use Rattle.sel_box.specs.Class.{opaque_protocol, opaque_field}
 use Rattle.sel_box.specs.Point.{PointFields}
-use Rattle.sel_text.specs.declared.address.Address.{Address}
+use Rattle.sel_text.specs.Family.{address_value}
 use Rattle.sel_text.specs.declared.item.AddressItem.{AddressItem}
 use Rattle.sel_text.specs.declared.port.PortItem.{PortItem}
 use Rattle.spd_line.specs.declared.line.LineParts.{LineParts}
 use Rattle.spd_line.specs.declared.line.ProtocolItem.{ProtocolItem}
 use Rattle.spd_line.specs.declared.line.Way.{Way}
+use Rattle.spd_line.specs.Families.{is_range_of}
 
 -- A line of that way is looked at in the direction.
-abbrev pub goes : Way → Direction → Bool
-goes Way.Both _ = true
-goes Way.Outbound Outbound = true
-goes Way.Outbound Inbound = false
-goes Way.Inbound Outbound = false
-goes Way.Inbound Inbound = true
+abbrev pub has_direction : Way → Direction → Bool
+has_direction Way.Both _ = true
+has_direction Way.Outbound Outbound = true
+has_direction Way.Inbound Inbound = true
+has_direction _ _ = false
 
 -- The number lies from the first to the last, both included.
 abbrev pub lies_in : ℕ → ℕ → ℕ → Bool
@@ -29,9 +28,8 @@ lies_in first last n = nat_le first n && nat_le n last
 -- The address item has the address of the family: ANY has each, a range those from its first to its last.
 abbrev pub address_has : Family → ℕ → AddressItem → Bool
 address_has _ _ AddressItem.Any = true
-address_has Four a (AddressItem.Range (Address.Four first) (Address.Four last)) = lies_in first last a
-address_has Six a (AddressItem.Range (Address.Six first) (Address.Six last)) = lies_in first last a
-address_has _ _ (AddressItem.Range _ _) = false
+address_has family a (AddressItem.Range first last) =
+    is_range_of family first last && lies_in (address_value first) (address_value last) a
 
 -- The protocol item has the protocol: ANY has each and OPAQUE too.
 abbrev pub protocol_has : ProtocolItem → ℕ → Bool
@@ -49,7 +47,7 @@ port_has f (PortItem.TypeCode first last) = lies_in first last f && nat_lt f opa
 -- The line has the direction, and each of its five selectors has the point's value.
 abbrev pub selects : Direction → PointFields → LineParts → Bool
 selects d x line =
-    goes line.way d
+    has_direction line.way d
     && list_any (address_has x.family x.local) line.local
     && list_any (address_has x.family x.remote) line.remote
     && protocol_has line.protocol x.protocol

@@ -1,7 +1,7 @@
 ghost use Rattle.std.specs.Prelude.{◌≡◌, ◌≤◌, Some, None, length, option_map};
-ghost use Rattle.spd_line.specs.Fault.{fault_text, line_fault, mixes_gates, protects_one_way};
+ghost use Rattle.spd_line.specs.Fault.{line_fault_text, line_fault, mixes_gates, protects_one_way};
 
-use crate::families::{are_mixed, has_family};
+use crate::families::has_family;
 use crate::ports::{flag_no_field, flag_opaque, have_form};
 use crate::width::is_too_wide;
 use crate::{Action, LineParts, Mode, Way};
@@ -31,7 +31,7 @@ pub enum LineFault {
 impl LineFault {
     /// What is printed of it.
     pub fn as_str(self) -> &'static str
-        ensures text { result.now ≡ fault_text self }
+        ensures text { result.now ≡ line_fault_text self }
         ensures short { length result.now ≤ 16 }
     {
         match self {
@@ -48,9 +48,9 @@ impl LineFault {
 
 impl fmt::Display for LineFault {
     ghost use Rattle.std.specs.Prelude.{Some};
-    ghost use Rattle.spd_line.specs.Fault.{fault_text};
+    ghost use Rattle.spd_line.specs.Fault.{line_fault_text};
 
-    ghost output = { λ fault. Some (fault_text fault) };
+    ghost output = { λ fault. Some (line_fault_text fault) };
 
     fn fmt<W: fmt::Write>(&self, f: &mut fmt::Formatter<W>) -> fmt::Result {
         f.write_str(self.as_str())
@@ -60,6 +60,7 @@ impl fmt::Display for LineFault {
 impl Error for LineFault {}
 
 // The first fault of some parts.
+#[tactic(auto, unfolding(crate::specs::Fault::line_fault))]
 pub fn fault_of(parts: &LineParts) -> Option<LineFault>
     ensures { result ≡ line_fault parts.now }
 {
@@ -90,13 +91,7 @@ pub fn fault_of(parts: &LineParts) -> Option<LineFault>
 fn is_one_way_protect(action: Action, way: Way) -> bool
     ensures { result ≡ protects_one_way action way }
 {
-    match (action, way) {
-        (Action::Discard, _) => false,
-        (Action::Bypass, _) => false,
-        (Action::Protect { .. }, Way::Both) => false,
-        (Action::Protect { .. }, Way::Outbound) => true,
-        (Action::Protect { .. }, Way::Inbound) => true,
-    }
+    matches!(action, Action::Protect { .. }) && !matches!(way, Way::Both)
 }
 
 fn has_mixed_gates(action: Action) -> bool
@@ -109,12 +104,7 @@ fn has_mixed_gates(action: Action) -> bool
                 gate_remote,
             },
             ..
-        } => are_mixed(gate_local, gate_remote),
-        Action::Protect {
-            mode: Mode::Transport,
-            ..
-        } => false,
-        Action::Discard => false,
-        Action::Bypass => false,
+        } => gate_local.family() != gate_remote.family(),
+        _ => false,
     }
 }

@@ -16,8 +16,8 @@ pub enum Carriage {
     Tunnel { first: Address, second: Address },
 }
 
-/// The judgement of a packet and the line that gave it: lines are counted from 1, and the count plus
-/// 1 is the line `final` behind them all.
+/// The judgement of a packet and the line that gave it: lines are counted from 1, and the count
+/// plus 1 is the line `final` behind them all.
 #[derive(Clone, Copy, Debug, PartialEq, Eq)]
 pub struct Verdict {
     pub line: u32,

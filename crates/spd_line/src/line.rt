@@ -1,8 +1,11 @@
 ghost use Rattle.std.specs.Prelude.{◌≡◌, ◌≢◌, [], Some, None, IfOk, IfErr, OnOk};
+ghost use Rattle.spd_line.specs.AnyLine.{any_line};
 ghost use Rattle.spd_line.specs.Fault.{line_fault};
+ghost use Rattle.spd_line.specs.IsLine.{IsLine};
 
 use crate::fault::{LineFault, fault_of};
-use crate::{Action, AddressList, Name, PortList};
+use crate::{Action, AddressItem, AddressList, Name, NoMemory, PortItem, PortList};
+use std::alloc::Global;
 use std::marker::Model;
 
 /// The directions in which a line is looked at.
@@ -45,7 +48,34 @@ pub struct LineParts {
     pub pfp: Pfp,
 }
 
-/// One line of a policy.
+impl LineParts {
+    /// The parts of the line that selects everything: each selector is ANY and none is flagged, and
+    /// the line is looked at in both directions. They make a line whatever the action, but for a
+    /// tunnel whose gates have different families.
+    pub fn any(alloc: Global, name: Name, action: Action) -> Result<LineParts, NoMemory>
+        ensures { IfOk result (λ parts. parts ≡ any_line name action) }
+    {
+        Ok(LineParts {
+            name,
+            action,
+            way: Way::Both,
+            local: AddressList::of_one(alloc, AddressItem::Any)?,
+            remote: AddressList::of_one(alloc, AddressItem::Any)?,
+            protocol: ProtocolItem::Any,
+            local_port: PortList::of_one(alloc, PortItem::Any)?,
+            remote_port: PortList::of_one(alloc, PortItem::Any)?,
+            pfp: Pfp {
+                local: false,
+                remote: false,
+                protocol: false,
+                local_port: false,
+                remote_port: false,
+            },
+        })
+    }
+}
+
+/// One line of a policy: parts that have no fault, with an item in each list.
 #[derive(Debug, Drop)]
 pub struct Line {
     parts: LineParts,
@@ -53,10 +83,13 @@ pub struct Line {
 
 impl Model for Line {
     ghost use Rattle.spd_line.specs.declared.line.LineParts.{LineParts};
+    ghost use Rattle.spd_line.specs.IsLine.{IsLine};
 
     ghost Value = { LineParts };
 
     ghost view = { λ l. l.parts };
+
+    ghost invariant = { λ l. IsLine l.parts };
 }
 
 /// Some parts that make no line, and why.
@@ -88,7 +121,8 @@ impl Line {
     /// The parts that the line was made from.
     #[inline]
     pub fn parts(&self) -> &LineParts
-        ensures { result.now ≡ self.now }
+        ensures value { result.now ≡ self.now }
+        ensures line { IsLine result.now }
     {
         &self.parts
     }

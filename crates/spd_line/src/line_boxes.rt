@@ -1,14 +1,15 @@
-ghost use Rattle.std.specs.Prelude.{◌≡◌, ◌++◌, IfOk, OnOk, map};
+ghost use Rattle.std.specs.Prelude.{◌≡◌, ◌≤◌, ◌++◌, IfOk, OnOk, length, map};
 ghost use Rattle.sel_box.specs.declared.any_box.AnyBox.{AnyBox};
-ghost use Rattle.sel_box.specs.Packet.{last_address};
-ghost use Rattle.spd_line.specs.LineBoxes.{field_ranges, final_list, line_box, line_boxes, line_ranges, whole_box};
+ghost use Rattle.sel_text.specs.Family.{last_address};
+ghost use Rattle.spd_line.specs.LineBoxes.{field_ranges, final_list, line_box, line_boxes};
+ghost use Rattle.spd_line.specs.LineBoxes.{line_ranges};
 
 use crate::product_list::products;
 use crate::ranges::{ranges_of_addresses, ranges_of_ports, ranges_of_protocol};
 use crate::select::has_direction;
 use crate::verdict::judge_by;
 use crate::{Judgement, Line, LineParts, NoMemory};
-use sel_box::{AnyBox, Box4, Box6, Direction, Family, OPAQUE_FIELD, OPAQUE_PROTOCOL, Ranges};
+use sel_box::{AnyBox, Box4, Box6, Direction, Family, Ranges};
 use sel_region::{Axis, Field, Interval, Pair, Proto, Region};
 use std::alloc::Global;
 
@@ -22,14 +23,17 @@ pub struct LineBox {
 /// A list of boxes, each with a judgement.
 pub type BoxList = lists::List<LineBox>;
 
+/// Boxes that are looked up together.
+pub type Group = lists::List<LineBox>;
+
 // The ranges of a box that are alike in both families: protocol, local and remote field.
 type FieldRanges = Pair<Interval<Proto>, Pair<Interval<Field>, Interval<Field>>>;
 
-/// A box whose type has the family.
+// A box whose type has the family.
 trait OfFamily: Copy {
     ghost region: { Self → AnyBox };
 
-    /// The box with its family.
+    // The box with its family.
     fn region(&self) -> AnyBox
         ensures { result ≡ region self.now };
 }
@@ -51,7 +55,7 @@ impl OfFamily for Box6 {
 }
 
 /// The boxes of the points that the line selects in the direction (RFC 4301 section 4.4.1.1), each
-/// with the line's judgement there; none where the line lacks the direction.
+/// with the line's judgement there, at most 4,096; none where the line lacks the direction.
 ///
 /// IPv4 comes before IPv6, and then the local ranges in the order of their items, within each the
 /// remote ranges, then the protocol, the local ports and the remote ports. ANY as an address is one
@@ -60,15 +64,17 @@ impl OfFamily for Box6 {
 /// and of the line's items.
 pub fn boxes(alloc: Global, line: &Line, direction: Direction) -> Result<BoxList, NoMemory>
     ensures boxes { IfOk result (λ list. list ≡ line_boxes direction line.now) }
+    ensures few { IfOk result (λ list. length list ≤ 4096) }
 {
+    let parts = line.parts();
     let mut list = BoxList::new(alloc);
-    if !has_direction(line.parts().way, direction) {
+    if !has_direction(parts.way, direction) {
         return Ok(list);
     }
-    let fields = field_products(alloc, line.parts())?;
-    let four: Vec<Box4> = family_products(alloc, Family::Four, line.parts(), &fields)?;
+    let fields = field_products(alloc, parts)?;
+    let four: Vec<Box4> = family_products(alloc, Family::Four, parts, &fields)?;
     put_boxes(&mut list, line, direction, &four)?;
-    let six: Vec<Box6> = family_products(alloc, Family::Six, line.parts(), &fields)?;
+    let six: Vec<Box6> = family_products(alloc, Family::Six, parts, &fields)?;
     put_boxes(&mut list, line, direction, &six)?;
     Ok(list)
 }
@@ -79,22 +85,9 @@ pub fn final_boxes() -> [LineBox; 2]
     ensures { result ≡ final_list }
 {
     [Family::Four, Family::Six].map(|family| LineBox {
-        region: whole(family),
+        region: AnyBox::whole(family),
         judgement: Judgement::Discard,
     })
-}
-
-// All points of a family.
-fn whole(family: Family) -> AnyBox
-    ensures { result ≡ whole_box family }
-{
-    let addresses = (0, family.last_address());
-    let protocols = (0, OPAQUE_PROTOCOL as u128);
-    let fields = (0, OPAQUE_FIELD as u128);
-    match AnyBox::new(family, [addresses, addresses, protocols, fields, fields]) {
-        Some(region) => region,
-        None => unreachable!(),
-    }
 }
 
 // The products of the ranges that are alike in both families.
@@ -108,8 +101,8 @@ fn field_products(alloc: Global, parts: &LineParts) -> Result<Vec<FieldRanges>, 
     products(alloc, &protocol, &ports)
 }
 
-// The products of a family's ranges, where its axis is this one. Where the line has no local range of
-// the family, nothing is made of the remote ones.
+// The products of a family's ranges, where its axis is this one. Where the line has no local range
+// of the family, nothing is made of the remote ones.
 #[tactic(auto, unfolding(crate::specs::LineBoxes::line_ranges))]
 fn family_products<A: Axis>(
     alloc: Global,

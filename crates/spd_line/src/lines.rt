@@ -1,4 +1,5 @@
-ghost use Rattle.std.specs.Prelude.{◌≡◌, ◌<◌, ◌∷◌, ◌++◌, [], length, List, OnOk, OnErr, slice_get, vec_len};
+ghost use Rattle.std.specs.Prelude.{◌≡◌, ◌<◌, ◌≤◌, ◌∷◌, ◌++◌, [], length, List, Some, OnOk};
+ghost use Rattle.std.specs.Prelude.{OnErr, slice_get, vec_len};
 ghost use Rattle.std.specs.Option.{option_copied};
 ghost use Rattle.spd_line.specs.declared.line.LineParts.{LineParts};
 ghost use Rattle.spd_line.specs.First.{line_at};
@@ -19,6 +20,18 @@ pub trait Lines {
     /// The line at a place; `None` exactly outside 1 to the count.
     fn at(&self, place: u32) -> Option<&Line>
         ensures { option_copied result ≡ line_at (lines self.now) place };
+
+    /// The line at a place, which is one of theirs.
+    final fn line(&self, place: u32) -> &Line
+        requires first { 1 ≤ place }
+        requires last { place ≤ length (lines self.now) }
+        ensures { line_at (lines self.now) place ≡ Some result.now }
+    {
+        match self.at(place) {
+            Some(line) => line,
+            None => unreachable!(),
+        }
+    }
 }
 
 /// A plain list of lines, at most 65,536 of them.
@@ -48,7 +61,8 @@ impl LineList {
         }
     }
 
-    /// Puts a line at the end. Where memory is wanting, the list is unchanged and the line is dropped.
+    /// Puts a line at the end. Where there is no memory, the list is unchanged and the line is
+    /// dropped.
     pub fn push(&mut self, line: Line) -> Result<(), NoMemory>
         requires { length self.old < 65536 }
         ensures ok { OnOk result (self.new ≡ self.old ++ line ∷ []) }

@@ -5,8 +5,8 @@ use crate::Line;
 use crate::pin::Pins;
 use sel_box::Point;
 
-/// The point's values on the flagged selectors of the line, which tell apart the associations that a
-/// PROTECT line makes (RFC 4301 section 4.4.1.2). Takes constant time and no memory.
+/// The point's values on the flagged selectors of the line, which tell apart the associations that
+/// a PROTECT line makes (RFC 4301 section 4.4.1.2). Takes constant time and no memory.
 pub fn pins(line: &Line, point: &Point) -> Pins
     ensures { result ≡ pins_of line.now point.now }
 {

@@ -1,15 +1,18 @@
 ghost use Rattle.std.specs.Prelude.{◌≡◌, ◌<◌, ◌++◌, IfOk, OnOk};
 ghost use Rattle.std.specs.List.{flat_map};
 ghost use Rattle.std.specs.Option.{option_to_list};
-ghost use Rattle.sel_box.specs.Packet.{last_address};
-ghost use Rattle.spd_line.specs.LineBoxes.{address_ranges, any_ranges, port_ranges, protocol_ranges};
+ghost use Rattle.sel_text.specs.Family.{last_address};
+ghost use Rattle.sel_text.specs.declared.item.AddressItem.{AddressItem};
+ghost use Rattle.spd_line.specs.LineBoxes.{address_ranges, any_ranges, port_ranges};
+ghost use Rattle.spd_line.specs.LineBoxes.{protocol_ranges};
 
+use crate::select::is_range_of;
 use crate::{Address, AddressItem, NoMemory, PortItem, ProtocolItem};
-use sel_box::Family;
 use sel_region::{Axis, Field, Interval, Proto};
+use sel_text::Family;
 use std::alloc::Global;
 
-// The ranges of an address selector in a family, in the order of its items. The axis is the family's.
+// The ranges of an address selector in a family, whose axis it is, in the order of its items.
 pub fn ranges_of_addresses<A: Axis>(
     alloc: Global,
     family: Family,
@@ -63,7 +66,10 @@ fn put_protocol(
     match item {
         ProtocolItem::Any => put_any(ranges, is_flagged),
         ProtocolItem::Opaque => put(ranges, Interval::new(Proto::LAST, Proto::LAST)),
-        ProtocolItem::Number(number) => put(ranges, Interval::new(number as u128, number as u128)),
+        ProtocolItem::Number(number) => put(
+            ranges,
+            Interval::new(u128::from(number), u128::from(number)),
+        ),
     }
 }
 
@@ -79,7 +85,7 @@ fn put_port(
         PortItem::Any => put_any(ranges, is_flagged),
         PortItem::Opaque => put(ranges, Interval::new(Field::LAST, Field::LAST)),
         PortItem::Number { first, last } | PortItem::TypeCode { first, last } => {
-            put(ranges, Interval::new(*first as u128, *last as u128))
+            put(ranges, Interval::new(u128::from(*first), u128::from(*last)))
         }
     }
 }
@@ -89,28 +95,26 @@ fn range_of<A: Axis>(family: Family, item: &AddressItem) -> Option<Interval<A>>
     requires { A.LAST ≡ last_address family }
     ensures { option_to_list result ≡ address_ranges family item.now }
 {
-    match (family, item) {
-        (_, AddressItem::Any) => Interval::new(0, A::LAST),
-        (
-            Family::Four,
-            AddressItem::Range {
-                first: Address::Four(first),
-                last: Address::Four(last),
-            },
-        ) => Interval::new(*first as u128, *last as u128),
-        (
-            Family::Six,
-            AddressItem::Range {
-                first: Address::Six(first),
-                last: Address::Six(last),
-            },
-        ) => Interval::new(*first, *last),
-        _ => None,
+    match item {
+        AddressItem::Any => Interval::new(0, A::LAST),
+        AddressItem::Range { first, last } => range_between(family, *first, *last),
     }
 }
 
-// Puts all values of a selector at the end: in one range, or where the selector is flagged in two, its
-// numbers and then OPAQUE, of which no packet has a value to populate from.
+// The range from one address to another, where both are of the family.
+fn range_between<A: Axis>(family: Family, first: Address, last: Address) -> Option<Interval<A>>
+    requires { A.LAST ≡ last_address family }
+    ensures { option_to_list result ≡ address_ranges family (AddressItem.Range first last) }
+{
+    if is_range_of(family, first, last) {
+        Interval::new(first.value(), last.value())
+    } else {
+        None
+    }
+}
+
+// Puts all values of a selector at the end: in one range, or where the selector is flagged in two,
+// its numbers and then OPAQUE, of which no packet has a value to populate from.
 fn put_any<A: Axis>(ranges: &mut Vec<Interval<A>>, is_flagged: bool) -> Result<(), NoMemory>
     requires { 0 < A.LAST }
     ensures { OnOk result (ranges.new.items ≡ ranges.old.items ++ any_ranges is_flagged A.LAST) }

@@ -1,9 +1,12 @@
 ghost use Rattle.std.specs.Prelude.{◌≡◌};
 ghost use Rattle.std.specs.List.{list_any};
-ghost use Rattle.spd_line.specs.Selects.{address_has, goes, lies_in, port_has, protocol_has, selects};
+ghost use Rattle.spd_line.specs.Families.{is_range_of};
+ghost use Rattle.spd_line.specs.Selects.{address_has, has_direction, lies_in, port_has};
+ghost use Rattle.spd_line.specs.Selects.{protocol_has, selects};
 
-use crate::{Address, AddressItem, Line, PortItem, ProtocolItem, Way};
-use sel_box::{Direction, Family, OPAQUE_FIELD, OPAQUE_PROTOCOL, Point};
+use crate::{Address, AddressItem, AddressList, Line, PortItem, PortList, ProtocolItem, Way};
+use sel_box::{Direction, OPAQUE_FIELD, OPAQUE_PROTOCOL, Point};
+use sel_text::Family;
 
 /// Whether the line selects the point in the direction: it is looked at in that direction, and each
 /// of its five selectors has the point's value (RFC 4301 section 4.4.1.1). Takes time by the number
@@ -14,23 +17,20 @@ pub fn matches(line: &Line, direction: Direction, point: &Point) -> bool
     let parts = line.parts();
     has_direction(parts.way, direction)
         && has_protocol(parts.protocol, point.protocol())
-        && have_address(parts.local.as_slice(), point.family(), point.local())
-        && have_address(parts.remote.as_slice(), point.family(), point.remote())
-        && have_field(parts.local_port.as_slice(), point.local_field())
-        && have_field(parts.remote_port.as_slice(), point.remote_field())
+        && have_address(&parts.local, point.family(), point.local())
+        && have_address(&parts.remote, point.family(), point.remote())
+        && have_field(&parts.local_port, point.local_field())
+        && have_field(&parts.remote_port, point.remote_field())
 }
 
 // Whether a line of that way is looked at in the direction.
 pub fn has_direction(way: Way, direction: Direction) -> bool
-    ensures { result ≡ goes way direction }
+    ensures { result ≡ has_direction way direction }
 {
-    match (way, direction) {
-        (Way::Both, _) => true,
-        (Way::Outbound, Direction::Outbound) => true,
-        (Way::Outbound, Direction::Inbound) => false,
-        (Way::Inbound, Direction::Outbound) => false,
-        (Way::Inbound, Direction::Inbound) => true,
-    }
+    matches!(
+        (way, direction),
+        (Way::Both, _) | (Way::Outbound, Direction::Outbound) | (Way::Inbound, Direction::Inbound)
+    )
 }
 
 fn has_protocol(item: ProtocolItem, protocol: u16) -> bool
@@ -39,12 +39,12 @@ fn has_protocol(item: ProtocolItem, protocol: u16) -> bool
     match item {
         ProtocolItem::Any => true,
         ProtocolItem::Opaque => protocol == OPAQUE_PROTOCOL,
-        ProtocolItem::Number(number) => protocol == number as u16,
+        ProtocolItem::Number(number) => protocol == u16::from(number),
     }
 }
 
 // Whether some item has the address of the family.
-fn have_address(items: &[AddressItem], family: Family, address: u128) -> bool
+fn have_address(items: &AddressList, family: Family, address: u128) -> bool
     ensures { result ≡ list_any (address_has family address) items.now }
 {
     items.iter().any(|item| has_address(item, family, address))
@@ -53,28 +53,23 @@ fn have_address(items: &[AddressItem], family: Family, address: u128) -> bool
 fn has_address(item: &AddressItem, family: Family, address: u128) -> bool
     ensures { result ≡ address_has family address item.now }
 {
-    match (family, item) {
-        (_, AddressItem::Any) => true,
-        (
-            Family::Four,
-            AddressItem::Range {
-                first: Address::Four(first),
-                last: Address::Four(last),
-            },
-        ) => lies_between(*first as u128, *last as u128, address),
-        (
-            Family::Six,
-            AddressItem::Range {
-                first: Address::Six(first),
-                last: Address::Six(last),
-            },
-        ) => lies_between(*first, *last, address),
-        _ => false,
+    match item {
+        AddressItem::Any => true,
+        AddressItem::Range { first, last } => {
+            is_range_of(family, *first, *last) && lies_between(first.value(), last.value(), address)
+        }
     }
 }
 
+// Whether a range from one address to another is of the family.
+pub fn is_range_of(family: Family, first: Address, last: Address) -> bool
+    ensures { result ≡ is_range_of family first last }
+{
+    family == first.family() && family == last.family()
+}
+
 // Whether some item has the field.
-fn have_field(items: &[PortItem], field: u32) -> bool
+fn have_field(items: &PortList, field: u32) -> bool
     ensures { result ≡ list_any (port_has field) items.now }
 {
     items.iter().any(|item| has_field(item, field))
@@ -87,7 +82,7 @@ fn has_field(item: &PortItem, field: u32) -> bool
         PortItem::Any => true,
         PortItem::Opaque => field == OPAQUE_FIELD,
         PortItem::Number { first, last } | PortItem::TypeCode { first, last } => {
-            lies_between(*first as u128, *last as u128, field as u128)
+            lies_between(u128::from(*first), u128::from(*last), u128::from(field))
         }
     }
 }

@@ -1,28 +1,28 @@
-ghost use Rattle.std.specs.Prelude.{◌≡◌, ◌+◌, ◌≤◌, codes, length};
+ghost use Rattle.std.specs.Prelude.{◌≡◌, ◌+◌, ◌≤◌, length};
 ghost use Rattle.spd_line.specs.First.{name_at, verdict_of};
 ghost use Rattle.spd_line.specs.Judged.{carriage_of, judged, judgement_of, lacks_flagged};
+ghost use Rattle.spd_line.specs.Policy.{final_name, most_lines};
 
 use crate::select::matches;
-use crate::{Action, Carriage, Judgement, Line, Lines, Mode, Name, Pfp, Verdict};
+use crate::{Action, Carriage, FINAL, Judgement, Line, Lines, Mode, Name, Pfp, Verdict};
 use sel_box::{Direction, OPAQUE_FIELD, OPAQUE_PROTOCOL, Point};
 
-/// The verdict on a point: the first line that selects it, in order, and that line's judgement; where
-/// none does, `final`, the line behind the last, discards it (RFC 4301 sections 4.4.1 and 5). Takes
-/// time by the number of lines before and with the first.
+/// The verdict on a point: the first line that selects it, in order, and that line's judgement;
+/// where none does, `final`, the line behind the last, discards it (RFC 4301 sections 4.4.1 and 5).
+/// Takes time by the number of lines before and with the first.
 pub fn judge<L: Lines>(lines: &L, direction: Direction, point: &Point) -> Verdict
-    requires { length (L.lines lines.now) ≤ 4096 }
+    requires { length (L.lines lines.now) ≤ most_lines }
     ensures verdict { result ≡ verdict_of direction point.now (L.lines lines.now) }
     ensures first { 1 ≤ result.line }
     ensures last { result.line ≤ length (L.lines lines.now) + 1 }
 {
     for place in 1..lines.count() + 1 {
-        if let Some(line) = lines.at(place) {
-            if matches(line, direction, point) {
-                return Verdict {
-                    line: place,
-                    judgement: judge_by(line, direction, point),
-                };
-            }
+        let line = lines.line(place);
+        if matches(line, direction, point) {
+            return Verdict {
+                line: place,
+                judgement: judge_by(line, direction, point),
+            };
         }
     }
     Verdict {
@@ -33,7 +33,7 @@ pub fn judge<L: Lines>(lines: &L, direction: Direction, point: &Point) -> Verdic
 
 /// The name of the line at a place, `final` at the count plus 1.
 pub fn name_of<L: Lines>(lines: &L, line: u32) -> Name
-    requires few { length (L.lines lines.now) ≤ 4096 }
+    requires few { length (L.lines lines.now) ≤ most_lines }
     requires first { 1 ≤ line }
     requires last { line ≤ length (L.lines lines.now) + 1 }
     ensures { result ≡ name_at (L.lines lines.now) line }
@@ -46,9 +46,9 @@ pub fn name_of<L: Lines>(lines: &L, line: u32) -> Name
 
 // The name of the line behind the last.
 fn final_name() -> Name
-    ensures { result ≡ codes "final" }
+    ensures { result ≡ final_name }
 {
-    match sel_text::read_name(b"final") {
+    match sel_text::read_name(FINAL) {
         Ok(name) => name,
         Err(_) => unreachable!(),
     }
@@ -62,7 +62,7 @@ pub fn judge_by(line: &Line, direction: Direction, point: &Point) -> Judgement
     if is_missing(&parts.pfp, point) {
         Judgement::Discard
     } else {
-        acted(direction, parts.action)
+        judgement_of(direction, parts.action)
     }
 }
 
@@ -75,7 +75,8 @@ fn is_missing(flags: &Pfp, point: &Point) -> bool
         || flags.remote_port && point.remote_field() == OPAQUE_FIELD
 }
 
-fn acted(direction: Direction, action: Action) -> Judgement
+// What the action does to a packet of the direction.
+fn judgement_of(direction: Direction, action: Action) -> Judgement
     ensures { result ≡ judgement_of direction action }
 {
     match action {
@@ -83,13 +84,13 @@ fn acted(direction: Direction, action: Action) -> Judgement
         Action::Bypass => Judgement::Bypass,
         Action::Protect { ipsec, mode } => Judgement::Protect {
             ipsec,
-            carriage: carried(direction, mode),
+            carriage: carriage_of(direction, mode),
         },
     }
 }
 
 // A tunnel's gates in the order of travel.
-fn carried(direction: Direction, mode: Mode) -> Carriage
+fn carriage_of(direction: Direction, mode: Mode) -> Carriage
     ensures { result ≡ carriage_of direction mode }
 {
     match (direction, mode) {

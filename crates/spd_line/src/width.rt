@@ -1,9 +1,11 @@
 ghost use Rattle.std.specs.Prelude.{◌≡◌, ◌*◌, min};
 ghost use Rattle.spd_line.specs.Fault.{is_too_wide};
-ghost use Rattle.spd_line.specs.Width.{box_count, item_parts, port_parts, protocol_parts, range_pairs};
+ghost use Rattle.spd_line.specs.Width.{box_count, family_pairs, item_parts, port_parts};
+ghost use Rattle.spd_line.specs.Width.{protocol_parts, range_pairs};
 
-use crate::families::{count_four, count_six};
+use crate::families::count_of;
 use crate::{LineParts, PortItem, ProtocolItem};
+use sel_text::Family;
 
 // The most boxes of a line.
 const MOST_BOXES: usize = 4096;
@@ -29,11 +31,13 @@ fn count_boxes(parts: &LineParts) -> usize
 fn count_pairs(parts: &LineParts) -> usize
     ensures { result ≡ min (range_pairs parts.now) usize.MAX }
 {
-    let local = parts.local.as_slice();
-    let remote = parts.remote.as_slice();
-    let four = count_four(local).saturating_mul(count_four(remote));
-    let six = count_six(local).saturating_mul(count_six(remote));
-    four.saturating_add(six)
+    count_of_family(Family::Four, parts).saturating_add(count_of_family(Family::Six, parts))
+}
+
+fn count_of_family(family: Family, parts: &LineParts) -> usize
+    ensures { result ≡ min (family_pairs family parts.now) usize.MAX }
+{
+    count_of(family, &parts.local).saturating_mul(count_of(family, &parts.remote))
 }
 
 fn count_protocol_parts(is_flagged: bool, item: ProtocolItem) -> usize
@@ -41,9 +45,7 @@ fn count_protocol_parts(is_flagged: bool, item: ProtocolItem) -> usize
 {
     match (is_flagged, item) {
         (true, ProtocolItem::Any) => 2,
-        (false, ProtocolItem::Any) => 1,
-        (_, ProtocolItem::Opaque) => 1,
-        (_, ProtocolItem::Number(_)) => 1,
+        _ => 1,
     }
 }
 
@@ -62,9 +64,6 @@ fn count_item_parts(is_flagged: bool, item: &PortItem) -> usize
 {
     match (is_flagged, item) {
         (true, PortItem::Any) => 2,
-        (false, PortItem::Any) => 1,
-        (_, PortItem::Opaque) => 1,
-        (_, PortItem::Number { .. }) => 1,
-        (_, PortItem::TypeCode { .. }) => 1,
+        _ => 1,
     }
 }

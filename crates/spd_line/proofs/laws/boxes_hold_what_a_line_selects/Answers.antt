@@ -1,5 +1,5 @@
-use Rattle.spd_line.specs.LineBoxJudged.{line_boxes-judged}
-use Rattle.spd_line.specs.LineBoxLaws.{line_boxes-has}
+use Rattle.spd_line.proofs.LineBoxJudged.{line_boxes-judged}
+use Rattle.spd_line.proofs.LineBoxLaws.{line_boxes-has}
 use Rattle.spd_line.proofs.laws.boxes_hold_what_a_line_selects.Goals as goal
 
 pub returns-clause-has : goal.returns-clause-has

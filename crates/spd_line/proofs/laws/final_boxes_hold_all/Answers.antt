@@ -1,4 +1,4 @@
-use Rattle.spd_line.specs.FinalLaws.{final_list-count, final_list-judged}
+use Rattle.spd_line.proofs.FinalLaws.{final_list-count, final_list-judged}
 use Rattle.spd_line.proofs.laws.final_boxes_hold_all.Goals as goal
 
 pub returns-clause-once : goal.returns-clause-once

@@ -68,7 +68,8 @@ All-products {R} {S} First Second (first ∷ firsts) seconds of_first of_second 
     let Both : Pair R S → Type 0 = λ r. First r.first × Second r.second in
     let here : First first = All-head First first firsts of_first in
     All-append Both (map (λ second. pair_of first second) seconds) (products firsts seconds)
-    (All-map Both (λ second. pair_of first second) seconds (All-weaker Second (λ second. First first × Second second) (λ second of. (here, of)) seconds of_second))
+    (All-map Both (λ second. pair_of first second) seconds
+    (All-weaker Second (λ second. First first × Second second) (λ second of. (here, of)) seconds of_second))
     (All-products First Second firsts seconds (All-tail First first firsts of_first) of_second)
 
 -- there are as many as the product of the counts

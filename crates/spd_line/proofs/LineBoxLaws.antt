@@ -1,25 +1,27 @@
 -- A line's boxes have the points that the line selects.
-use Rattle.std.proofs.Common.{◌≡◌, ℕ, ◌-◌, ◌<◌, min, Bool, true, false, ◌==◌, ◌&&◌, ◌||◌, cond, nat_le, nat_lt, List, [], ◌∷◌, map, flat_map, refl, ap₂, ◌∙◌, arith}
+use Rattle.std.proofs.Common.{◌≡◌, ℕ, ◌-◌, ◌<◌, min, Bool, true, false, ◌==◌, ◌&&◌, ◌||◌}
+use Rattle.std.proofs.Common.{cond, nat_le, nat_lt, List, [], ◌∷◌, map, flat_map, refl, ap₂, ◌∙◌, arith}
 use Rattle.std.specs.List.{list_any}
 use Rattle.std.proofs.lemmas.Bool.Decides.{nat_tests}
 use Rattle.std.proofs.lemmas.List.Folds.{list_any-append}
 use Rattle.sel_region.specs.Interval.{Range, range_from, range_has, whole_range}
 use Rattle.sel_region.specs.Pair.{pair_has}
-use Rattle.sel_box.specs.Boxes.{Values, box_from, box_has, ranges_have, same_family, values_of}
+use Rattle.sel_box.specs.Boxes.{Values, box_from, box_has, ranges_have, values_of}
 use Rattle.sel_box.specs.Class.{opaque_field, opaque_protocol}
 use Rattle.sel_box.specs.declared.packet.Direction.{Direction}
-use Rattle.sel_box.specs.declared.packet.Family.{Family}
-use Rattle.sel_box.specs.declared.packet.Family.TheVariants.{Four, Six}
-use Rattle.sel_box.specs.Packet.{last_address}
+use Rattle.sel_text.specs.declared.family.Family.{Family}
+use Rattle.sel_text.specs.declared.family.Family.TheVariants.{Four, Six}
+use Rattle.sel_text.specs.Family.{address_value, last_address, same_family}
 use Rattle.sel_box.specs.Point.{PointFields, is_point}
-use Rattle.sel_text.specs.declared.address.Address.{Address}
 use Rattle.sel_text.specs.declared.item.AddressItem.{AddressItem}
 use Rattle.sel_text.specs.declared.port.PortItem.{PortItem}
 use Rattle.spd_line.specs.declared.line.LineParts.{LineParts}
 use Rattle.spd_line.specs.declared.line.ProtocolItem.{ProtocolItem}
-use Rattle.spd_line.specs.LineBoxes.{address_ranges, any_ranges, family_regions, field_ranges, line_box, line_boxes, line_ranges, line_regions, ordered_range, port_ranges, products, protocol_ranges}
-use Rattle.spd_line.specs.ProductLaws.{list_any-and_left, list_any-flat_map, list_any-map, products-has}
-use Rattle.spd_line.specs.Selects.{address_has, goes, lies_in, port_has, protocol_has, selects}
+use Rattle.spd_line.specs.Families.{is_range_of}
+use Rattle.spd_line.specs.LineBoxes.{address_ranges, any_ranges, family_regions, field_ranges, line_box, line_boxes}
+use Rattle.spd_line.specs.LineBoxes.{line_ranges, line_regions, ordered_range, port_ranges, products, protocol_ranges}
+use Rattle.spd_line.proofs.ProductLaws.{list_any-and_left, list_any-flat_map, list_any-map, products-has}
+use Rattle.spd_line.specs.Selects.{address_has, has_direction, lies_in, port_has, protocol_has, selects}
 
 -- Some range of a list has the number.
 abbrev pub some_range : ℕ → List Range → Bool
@@ -46,14 +48,13 @@ any_ranges-has false opaque n within = whole_range-has opaque n within
 address_ranges-has : (family : Family) (address : ℕ) → nat_le address (last_address family) ≡ true →
     (item : AddressItem) → some_range address (address_ranges family item) ≡ address_has family address item
 address_ranges-has family address within AddressItem.Any = whole_range-has (last_address family) address within
-address_ranges-has Four address within (AddressItem.Range (Address.Four first) (Address.Four last)) = ordered_range-has first last address
-address_ranges-has Four address within (AddressItem.Range (Address.Four first) (Address.Six last)) = refl
-address_ranges-has Four address within (AddressItem.Range (Address.Six first) (Address.Four last)) = refl
-address_ranges-has Four address within (AddressItem.Range (Address.Six first) (Address.Six last)) = refl
-address_ranges-has Six address within (AddressItem.Range (Address.Six first) (Address.Six last)) = ordered_range-has first last address
-address_ranges-has Six address within (AddressItem.Range (Address.Six first) (Address.Four last)) = refl
-address_ranges-has Six address within (AddressItem.Range (Address.Four first) (Address.Six last)) = refl
-address_ranges-has Six address within (AddressItem.Range (Address.Four first) (Address.Four last)) = refl
+address_ranges-has family address within (AddressItem.Range first last) = go (is_range_of family first last)
+  where
+    go : (there : Bool) →
+        some_range address (cond there (ordered_range (address_value first) (address_value last)) [])
+        ≡ (there && lies_in (address_value first) (address_value last) address)
+    go true = ordered_range-has (address_value first) (address_value last) address
+    go false = refl
 
 protocol_ranges-has : (flagged : Bool) (item : ProtocolItem) (protocol : ℕ) → nat_le protocol opaque_protocol ≡ true →
     some_range protocol (protocol_ranges flagged item) ≡ protocol_has item protocol
@@ -84,7 +85,9 @@ pub record OnAxes (family : Family) (v : Values) : Type 0 where
 
 pub OnAxes-from_point : (x : PointFields) → is_point x ≡ true → OnAxes x.family (values_of x)
 OnAxes-from_point x on =
-    let parts = five_parts (nat_le x.local (last_address x.family)) (nat_le x.remote (last_address x.family)) (nat_le x.protocol opaque_protocol) (nat_le x.local_field opaque_field) (nat_le x.remote_field opaque_field) on in
+    let parts =
+    five_parts (nat_le x.local (last_address x.family)) (nat_le x.remote (last_address x.family)) (nat_le x.protocol opaque_protocol)
+    (nat_le x.local_field opaque_field) (nat_le x.remote_field opaque_field) on in
     record { local = parts.0; remote = parts.1; protocol = parts.2; local_field = parts.3; remote_field = parts.4 }
   where
     five_parts : (a b c d e : Bool) → (a && b && c && d && e) ≡ true → (a ≡ true) × (b ≡ true) × (c ≡ true) × (d ≡ true) × (e ≡ true)
@@ -102,19 +105,27 @@ line_ranges-has : (family : Family) (line : LineParts) (v : Values) → OnAxes f
     list_any (λ r. ranges_have r v) (line_ranges family line) ≡ selectors_have family line v
 unfolding line_ranges
 line_ranges-has family line v on =
-    products-has range_has (pair_has range_has (pair_has range_has (pair_has range_has range_has))) v (flat_map (address_ranges family) line.local) (products (flat_map (address_ranges family) line.remote) (field_ranges line))
-    ∙ ap₂ (λ a b. a && b) (list_any-flat_map (λ r. range_has r v.0) (address_ranges family) (address_has family v.0) (address_ranges-has family v.0 on.local) line.local)
-    (products-has range_has (pair_has range_has (pair_has range_has range_has)) v.1 (flat_map (address_ranges family) line.remote) (field_ranges line)
-    ∙ ap₂ (λ a b. a && b) (list_any-flat_map (λ r. range_has r v.1.0) (address_ranges family) (address_has family v.1.0) (address_ranges-has family v.1.0 on.remote) line.remote)
-    (products-has range_has (pair_has range_has range_has) v.1.1 (protocol_ranges line.pfp.protocol line.protocol) (products (flat_map (port_ranges line.pfp.local_port) line.local_port) (flat_map (port_ranges line.pfp.remote_port) line.remote_port))
-    ∙ ap₂ (λ a b. a && b) (protocol_ranges-has line.pfp.protocol line.protocol v.1.1.0 on.protocol)
-    (products-has range_has range_has v.1.1.1 (flat_map (port_ranges line.pfp.local_port) line.local_port) (flat_map (port_ranges line.pfp.remote_port) line.remote_port)
+    products-has range_has (pair_has range_has (pair_has range_has (pair_has range_has range_has))) v (flat_map (address_ranges family) line.local)
+    (products (flat_map (address_ranges family) line.remote) (field_ranges line))
     ∙ ap₂ (λ a b. a && b)
-    (list_any-flat_map (λ r. range_has r v.1.1.1.0) (port_ranges line.pfp.local_port) (port_has v.1.1.1.0) (port_ranges-has line.pfp.local_port v.1.1.1.0 on.local_field) line.local_port)
-    (list_any-flat_map (λ r. range_has r v.1.1.1.1) (port_ranges line.pfp.remote_port) (port_has v.1.1.1.1) (port_ranges-has line.pfp.remote_port v.1.1.1.1 on.remote_field) line.remote_port))))
+    (list_any-flat_map (λ r. range_has r v.0) (address_ranges family) (address_has family v.0) (address_ranges-has family v.0 on.local) line.local)
+    (products-has range_has (pair_has range_has (pair_has range_has range_has)) v.1 (flat_map (address_ranges family) line.remote) (field_ranges line)
+    ∙ ap₂ (λ a b. a && b)
+    (list_any-flat_map (λ r. range_has r v.1.0) (address_ranges family) (address_has family v.1.0) (address_ranges-has family v.1.0 on.remote) line.remote)
+    (products-has range_has (pair_has range_has range_has) v.1.1 (protocol_ranges line.pfp.protocol line.protocol)
+    (products (flat_map (port_ranges line.pfp.local_port) line.local_port) (flat_map (port_ranges line.pfp.remote_port) line.remote_port))
+    ∙ ap₂ (λ a b. a && b) (protocol_ranges-has line.pfp.protocol line.protocol v.1.1.0 on.protocol)
+    (products-has range_has range_has v.1.1.1 (flat_map (port_ranges line.pfp.local_port) line.local_port)
+    (flat_map (port_ranges line.pfp.remote_port) line.remote_port)
+    ∙ ap₂ (λ a b. a && b)
+    (list_any-flat_map (λ r. range_has r v.1.1.1.0) (port_ranges line.pfp.local_port) (port_has v.1.1.1.0)
+    (port_ranges-has line.pfp.local_port v.1.1.1.0 on.local_field) line.local_port)
+    (list_any-flat_map (λ r. range_has r v.1.1.1.1) (port_ranges line.pfp.remote_port) (port_has v.1.1.1.1)
+    (port_ranges-has line.pfp.remote_port v.1.1.1.1 on.remote_field) line.remote_port))))
 
 family_regions-has : (family : Family) (line : LineParts) (x : PointFields) →
-    list_any (λ b. box_has b x) (family_regions family line) ≡ (same_family family x.family && list_any (λ r. ranges_have r (values_of x)) (line_ranges family line))
+    list_any (λ b. box_has b x) (family_regions family line)
+    ≡ (same_family family x.family && list_any (λ r. ranges_have r (values_of x)) (line_ranges family line))
 family_regions-has Four line x =
     list_any-map (λ b. box_has b x) (box_from Four) (line_ranges Four line)
     ∙ list_any-and_left (same_family Four x.family) (λ r. ranges_have r (values_of x)) (line_ranges Four line)
@@ -142,13 +153,13 @@ line_regions-has line x on =
 -- Some box of a line has a point exactly where the line selects it.
 pub line_boxes-has : (d : Direction) (x : PointFields) (line : LineParts) → is_point x ≡ true →
     list_any (λ b. box_has b.region x) (line_boxes d line) ≡ selects d x line
-line_boxes-has d x line on = go (goes line.way d)
+line_boxes-has d x line on = go (has_direction line.way d)
   where
     regroup : (a b c d e : Bool) → (a && (b && (c && (d && e)))) ≡ (true && a && b && c && d && e)
     regroup a b c d e = grind arith
 
-    go : (there : Bool) → list_any (λ b. box_has b.region x) (cond there (map (line_box d line) (line_regions line)) [])
-        ≡ (there
+    go : (there : Bool) →
+        list_any (λ b. box_has b.region x) (cond there (map (line_box d line) (line_regions line)) []) ≡ (there
         && list_any (address_has x.family x.local) line.local
         && list_any (address_has x.family x.remote) line.remote
         && protocol_has line.protocol x.protocol
@@ -157,5 +168,6 @@ line_boxes-has d x line on = go (goes line.way d)
     go true =
         list_any-map (λ b. box_has b.region x) (line_box d line) (line_regions line)
         ∙ line_regions-has line x on
-        ∙ regroup (list_any (address_has x.family x.local) line.local) (list_any (address_has x.family x.remote) line.remote) (protocol_has line.protocol x.protocol) (list_any (port_has x.local_field) line.local_port) (list_any (port_has x.remote_field) line.remote_port)
+        ∙ regroup (list_any (address_has x.family x.local) line.local) (list_any (address_has x.family x.remote) line.remote)
+        (protocol_has line.protocol x.protocol) (list_any (port_has x.local_field) line.local_port) (list_any (port_has x.remote_field) line.remote_port)
     go false = refl

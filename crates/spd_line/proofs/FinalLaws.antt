@@ -6,16 +6,18 @@ use Rattle.std.proofs.lemmas.Bool.Decides.{nat_tests}
 use Rattle.std.proofs.lemmas.List.Elements.{All-from_recursion}
 use Rattle.sel_region.specs.Interval.{range_has, whole_range}
 use Rattle.sel_region.specs.Region.{hits, one_if}
-use Rattle.sel_box.specs.Boxes.{Values, box_has, ranges_have, ranges_of, same_family, values_of}
+use Rattle.sel_box.specs.Boxes.{Values, box_has, ranges_have, ranges_of, values_of}
+use Rattle.sel_text.specs.Family.{same_family}
 use Rattle.sel_box.specs.Class.{opaque_field, opaque_protocol}
-use Rattle.sel_box.specs.declared.packet.Family.{Family}
-use Rattle.sel_box.specs.declared.packet.Family.TheVariants.{Four, Six}
-use Rattle.sel_box.specs.Packet.{last_address}
+use Rattle.sel_text.specs.declared.family.Family.{Family}
+use Rattle.sel_text.specs.declared.family.Family.TheVariants.{Four, Six}
+use Rattle.sel_text.specs.Family.{last_address}
 use Rattle.sel_box.specs.Point.{PointFields, is_point}
 use Rattle.spd_line.specs.declared.judgement.Judgement.{Judgement}
 use Rattle.spd_line.specs.declared.line_boxes.LineBox.{LineBox}
-use Rattle.spd_line.specs.LineBoxes.{final_list, whole_box}
-use Rattle.spd_line.specs.LineBoxLaws.{OnAxes, OnAxes-from_point}
+use Rattle.sel_box.specs.Bounds.{whole_box}
+use Rattle.spd_line.specs.LineBoxes.{final_list}
+use Rattle.spd_line.proofs.LineBoxLaws.{OnAxes, OnAxes-from_point}
 
 on_whole : (last n : ℕ) → nat_le n last ≡ true → range_has (whole_range last) n ≡ true
 on_whole last n within = grind (arith, nat_tests)

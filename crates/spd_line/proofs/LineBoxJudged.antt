@@ -7,11 +7,12 @@ use Rattle.std.proofs.lemmas.List.Elements.{All-append, All-cons, All-map, All-n
 use Rattle.sel_region.specs.declared.pair.Pair.{Pair}
 use Rattle.sel_region.specs.Interval.{Range, high_of, range_from, range_has, whole_range}
 use Rattle.sel_box.specs.BoxRegion.{box_low}
-use Rattle.sel_box.specs.Boxes.{Ranges, box_from, box_has, same_family, values_of, ranges_have}
+use Rattle.sel_box.specs.Boxes.{Ranges, box_from, box_has, values_of, ranges_have}
+use Rattle.sel_text.specs.Family.{same_family}
 use Rattle.sel_box.specs.Class.{opaque_field, opaque_protocol}
 use Rattle.sel_box.specs.declared.packet.Direction.{Direction}
-use Rattle.sel_box.specs.declared.packet.Family.{Family}
-use Rattle.sel_box.specs.declared.packet.Family.TheVariants.{Four, Six}
+use Rattle.sel_text.specs.declared.family.Family.{Family}
+use Rattle.sel_text.specs.declared.family.Family.TheVariants.{Four, Six}
 use Rattle.sel_box.specs.Point.{PointFields}
 use Rattle.sel_text.specs.declared.port.PortItem.{PortItem}
 use Rattle.spd_line.specs.declared.judgement.Judgement.{Judgement}
@@ -19,9 +20,10 @@ use Rattle.spd_line.specs.declared.line.LineParts.{LineParts}
 use Rattle.spd_line.specs.declared.line.ProtocolItem.{ProtocolItem}
 use Rattle.spd_line.specs.declared.line_boxes.LineBox.{LineBox}
 use Rattle.spd_line.specs.Judged.{judged, judgement_of}
-use Rattle.spd_line.specs.LineBoxes.{any_ranges, family_regions, field_ranges, line_box, line_boxes, line_ranges, line_regions, ordered_range, port_ranges, protocol_ranges}
-use Rattle.spd_line.specs.ProductLaws.{All-flat_map, All-products}
-use Rattle.spd_line.specs.Selects.{goes}
+use Rattle.spd_line.specs.LineBoxes.{any_ranges, family_regions, field_ranges, line_box, line_boxes}
+use Rattle.spd_line.specs.LineBoxes.{line_ranges, line_regions, ordered_range, port_ranges, protocol_ranges}
+use Rattle.spd_line.proofs.ProductLaws.{All-flat_map, All-products}
+use Rattle.spd_line.specs.Selects.{has_direction}
 
 -- Where the selector is flagged, a number of the range is OPAQUE exactly where its least number is.
 abbrev pub LikeLow : Bool → ℕ → Range → Type 0
@@ -40,7 +42,8 @@ below-like flagged opaque r below n has =
 
 any_ranges-like : (flagged : Bool) (opaque : ℕ) → 0 < opaque → All (LikeLow flagged opaque) (any_ranges flagged opaque)
 any_ranges-like true opaque some =
-    All-cons (LikeLow true opaque) (range_from 0 (opaque - 1)) (range_from opaque opaque ∷ []) (below-like true opaque (range_from 0 (opaque - 1)) (omega arith))
+    All-cons (LikeLow true opaque) (range_from 0 (opaque - 1)) (range_from opaque opaque ∷ [])
+    (below-like true opaque (range_from 0 (opaque - 1)) (omega arith))
     (All-cons (LikeLow true opaque) (range_from opaque opaque) [] (one_number-like true opaque opaque) (All-nil (LikeLow true opaque)))
 any_ranges-like false opaque some =
     All-cons (LikeLow false opaque) (whole_range opaque) [] (λ n has. refl) (All-nil (LikeLow false opaque))
@@ -51,20 +54,24 @@ ordered_range-like flagged opaque first last below = go (nat_le first last) refl
     go : (in_order : Bool) → nat_le first last ≡ in_order → All (LikeLow flagged opaque) (cond in_order (range_from first last ∷ []) [])
     go true e =
         let le : first ≤ last = leb-true first last e in
-        All-cons (LikeLow flagged opaque) (range_from first last) [] (below-like flagged opaque (range_from first last) (omega arith)) (All-nil (LikeLow flagged opaque))
+        All-cons (LikeLow flagged opaque) (range_from first last) [] (below-like flagged opaque (range_from first last) (omega arith))
+        (All-nil (LikeLow flagged opaque))
     go false e = All-nil (LikeLow flagged opaque)
 
 protocol_ranges-like : (flagged : Bool) (item : ProtocolItem) → All (LikeLow flagged opaque_protocol) (protocol_ranges flagged item)
 protocol_ranges-like flagged ProtocolItem.Any = any_ranges-like flagged opaque_protocol (omega arith)
 protocol_ranges-like flagged ProtocolItem.Opaque =
-    All-cons (LikeLow flagged opaque_protocol) (range_from opaque_protocol opaque_protocol) [] (one_number-like flagged opaque_protocol opaque_protocol) (All-nil (LikeLow flagged opaque_protocol))
+    All-cons (LikeLow flagged opaque_protocol) (range_from opaque_protocol opaque_protocol) [] (one_number-like flagged opaque_protocol opaque_protocol)
+    (All-nil (LikeLow flagged opaque_protocol))
 protocol_ranges-like flagged (ProtocolItem.Number number) =
-    All-cons (LikeLow flagged opaque_protocol) (range_from number number) [] (one_number-like flagged opaque_protocol number) (All-nil (LikeLow flagged opaque_protocol))
+    All-cons (LikeLow flagged opaque_protocol) (range_from number number) [] (one_number-like flagged opaque_protocol number)
+    (All-nil (LikeLow flagged opaque_protocol))
 
 port_ranges-like : (flagged : Bool) (item : PortItem) → All (LikeLow flagged opaque_field) (port_ranges flagged item)
 port_ranges-like flagged PortItem.Any = any_ranges-like flagged opaque_field (omega arith)
 port_ranges-like flagged PortItem.Opaque =
-    All-cons (LikeLow flagged opaque_field) (range_from opaque_field opaque_field) [] (one_number-like flagged opaque_field opaque_field) (All-nil (LikeLow flagged opaque_field))
+    All-cons (LikeLow flagged opaque_field) (range_from opaque_field opaque_field) [] (one_number-like flagged opaque_field opaque_field)
+    (All-nil (LikeLow flagged opaque_field))
 port_ranges-like flagged (PortItem.Number first last) = ordered_range-like flagged opaque_field first (min last (opaque_field - 1)) (omega arith)
 port_ranges-like flagged (PortItem.TypeCode first last) = ordered_range-like flagged opaque_field first (min last (opaque_field - 1)) (omega arith)
 
@@ -79,7 +86,8 @@ RangesLike line r = Unit {0} × (Unit {0} × FieldsLike line r.second.second)
 
 field_ranges-like : (line : LineParts) → All (FieldsLike line) (field_ranges line)
 field_ranges-like line =
-    All-products (LikeLow line.pfp.protocol opaque_protocol) (λ (r : Pair Range Range). LikeLow line.pfp.local_port opaque_field r.first × LikeLow line.pfp.remote_port opaque_field r.second)
+    All-products (LikeLow line.pfp.protocol opaque_protocol)
+    (λ (r : Pair Range Range). LikeLow line.pfp.local_port opaque_field r.first × LikeLow line.pfp.remote_port opaque_field r.second)
     (protocol_ranges line.pfp.protocol line.protocol) _
     (protocol_ranges-like line.pfp.protocol line.protocol)
     (All-products (LikeLow line.pfp.local_port opaque_field) (LikeLow line.pfp.remote_port opaque_field) _ _
@@ -129,10 +137,11 @@ family_regions-judged d x line family =
 -- Each box of a line that has a point carries the line's judgement of it.
 pub line_boxes-judged : (d : Direction) (x : PointFields) (line : LineParts) →
     All (λ b. box_has b.region x ≡ true → b.judgement ≡ judged d x line) (line_boxes d line)
-line_boxes-judged d x line = go (goes line.way d)
+line_boxes-judged d x line = go (has_direction line.way d)
   where
     go : (there : Bool) → All (λ b. box_has b.region x ≡ true → b.judgement ≡ judged d x line) (cond there (map (line_box d line) (line_regions line)) [])
     go true =
         All-map (λ (b : LineBox). box_has b.region x ≡ true → b.judgement ≡ judged d x line) (line_box d line) (line_regions line)
-        (All-append (λ b. box_has b x ≡ true → judged d (box_low b) line ≡ judged d x line) (family_regions Four line) (family_regions Six line) (family_regions-judged d x line Four) (family_regions-judged d x line Six))
+        (All-append (λ b. box_has b x ≡ true → judged d (box_low b) line ≡ judged d x line) (family_regions Four line) (family_regions Six line)
+        (family_regions-judged d x line Four) (family_regions-judged d x line Six))
     go false = All-nil (λ (b : LineBox). box_has b.region x ≡ true → b.judgement ≡ judged d x line)
