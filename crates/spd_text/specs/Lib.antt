@@ -1,0 +1,4 @@
+pub mod DirectionText
+pub mod JudgementText
+pub mod PacketText
+pub mod RangeText
