@@ -1,5 +1,6 @@
 -- One box more is cut.
-use Rattle.std.proofs.Common.{◌≡◌, ℕ, zero, suc, ◌+◌, ◌-◌, ◌<◌, Bool, true, false, nat_lt, ◌||◌, cond, List, [], ◌∷◌, ◌++◌, length, map, drop, get_or, Option, Some, None, refl, sym, subst, ap, ap₂, ◌∙◌, append_assoc, arith}
+use Rattle.std.proofs.Common.{◌≡◌, ℕ, zero, suc, ◌+◌, ◌-◌, ◌<◌, Bool, true, false, nat_lt, ◌||◌, cond, List, [], ◌∷◌, ◌++◌, length, map, drop, get_or}
+use Rattle.std.proofs.Common.{Option, Some, None, refl, sym, subst, ap, ap₂, ◌∙◌, append_assoc, arith}
 use Rattle.std.specs.Prelude.{slice_get}
 use Rattle.std.proofs.lemmas.Bool.{false≢true}
 use Rattle.std.proofs.lemmas.List.{append-nil, drop_all, length-append, length-map}
@@ -11,15 +12,14 @@ use Rattle.spd_line.specs.First.{line_at}
 use Rattle.spd_line.specs.LineBoxes.{final_list, line_boxes}
 use Rattle.spd_cut.specs.declared.entry.Entry.{Entry}
 use Rattle.spd_cut.specs.declared.fault.CutFault.{CutFault}
-use Rattle.spd_cut.specs.Cut.{Continues, Cut, IsRefused, Outcome, outcome}
-use Rattle.spd_cut.specs.Cutting.{new_pieces}
-use Rattle.spd_cut.specs.Entries.{entries, entries_after, linked, linked_boxes, piece_of}
-use Rattle.spd_cut.specs.Fault.{IsCutFault, IsLineFault}
+use Rattle.spd_cut.specs.Entries.{entries, entries_after, linked, linked_boxes, new_pieces, piece_of}
+use Rattle.spd_cut.specs.Fault.{IsCutFault}
 use Rattle.spd_cut.specs.Steps.{Step, counts_of, first_over, passes, steps, steps_after, steps_of_line}
-use Rattle.spd_cut.proofs.Loops.{drop_item}
+use Rattle.spd_cut.specs.inner.Cut.{Continues, Cut, IsLineFault, IsRefused, WholeCut, whole_cut}
+use Rattle.sel_region.proofs.Loops.{drop_item}
 
 -- No count of a line passes, so the first step over the limit is a later one.
-first_over-later : (limit line : ℕ) (counts : List ℕ) (later : List Step) → passes limit counts ≡ false →
+pub first_over-later : (limit line : ℕ) (counts : List ℕ) (later : List Step) → passes limit counts ≡ false →
     first_over limit (steps_of_line line counts ++ later) ≡ first_over limit later
 first_over-later limit line [] later none = refl
 first_over-later limit line (count ∷ counts) later none =
@@ -32,7 +32,7 @@ first_over-later limit line (count ∷ counts) later none =
     go false rest e = rest e
 
 -- Some count of it does, so the line is the first.
-first_over-here : (limit line : ℕ) (counts : List ℕ) (later : List Step) → passes limit counts ≡ true →
+pub first_over-here : (limit line : ℕ) (counts : List ℕ) (later : List Step) → passes limit counts ≡ true →
     first_over limit (steps_of_line line counts ++ later) ≡ Some line
 first_over-here limit line [] later some = absurd (false≢true some)
 first_over-here limit line (count ∷ counts) later some =
@@ -74,17 +74,17 @@ IsRefused-at_box limit cut box (CutFault.Limit line) says rest =
     ∙ ap Some (sym says.0)
 IsRefused-at_box limit cut box CutFault.NoMemory says rest = tt
 
--- What is known of one outcome is known of another that is the same.
-pub IsCutFault-same : (before after : Outcome) (fault : CutFault) → before ≡ after → IsCutFault before.over fault → IsCutFault after.over fault
-IsCutFault-same before after fault same says = subst (λ (o : Outcome). IsCutFault o.over fault) same says
+-- What is known of one is known of another that is the same.
+pub IsCutFault-same : (before after : WholeCut) (fault : CutFault) → before ≡ after → IsCutFault before.over fault → IsCutFault after.over fault
+IsCutFault-same before after fault same says = subst (λ (o : WholeCut). IsCutFault o.over fault) same says
 
 -- The box at an index comes first of those that are left from there on.
 pub linked_next : (limit : ℕ) (cut : Cut) (place : ℕ) (boxes : List LineBox) (i : ℕ) (box : LineBox) (rest : List Entry) →
     i < length boxes → box ≡ get_or boxes i box →
-    outcome limit cut (record { region = box.region; judgement = box.judgement; link = place } ∷ (linked place (drop (i + 1) boxes) ++ rest))
-    ≡ outcome limit cut (linked place (drop i boxes) ++ rest)
+    whole_cut limit cut (record { region = box.region; judgement = box.judgement; link = place } ∷ (linked place (drop (i + 1) boxes) ++ rest))
+    ≡ whole_cut limit cut (linked place (drop i boxes) ++ rest)
 linked_next limit cut place boxes i box rest below is =
-    sym (drop_item (λ left. outcome limit cut (linked place left ++ rest)) boxes i box below is)
+    sym (drop_item (λ left. whole_cut limit cut (linked place left ++ rest)) boxes i box below is)
 
 -- The line at a place comes first of those from there on.
 drop_found : {X : Type 0} (xs : List X) (k : ℕ) (x : X) → slice_get xs k ≡ Some x → drop k xs ≡ x ∷ drop (suc k) xs
@@ -123,17 +123,17 @@ start = record { earlier = []; entries = [] }
 
 -- Where no box is left, the entries are those of the policy, and no step passes the limit.
 pub all_cut : (limit : ℕ) (cut : Cut) (d : Direction) (lines : List LineParts) →
-    outcome limit cut [] ≡ outcome limit start (linked_boxes d 1 lines) →
+    whole_cut limit cut [] ≡ whole_cut limit start (linked_boxes d 1 lines) →
     (cut.entries ≡ entries d lines) × (first_over limit (steps d lines) ≡ None)
 unfolding entries steps
 all_cut limit cut d lines same =
-    (sym (append-nil cut.entries) ∙ ap (λ (o : Outcome). o.entries) same, sym (ap (λ (o : Outcome). o.over) same))
+    (sym (append-nil cut.entries) ∙ ap (λ (o : WholeCut). o.entries) same, sym (ap (λ (o : WholeCut). o.over) same))
 
 -- Boxes that are refused behind what is cut so far refuse the policy.
 pub refused_of_all : (limit : ℕ) (cut : Cut) (d : Direction) (lines : List LineParts) (boxes rest left : List Entry) (fault : CutFault) →
-    boxes ++ rest ≡ left → outcome limit cut left ≡ outcome limit start (linked_boxes d 1 lines) →
+    boxes ++ rest ≡ left → whole_cut limit cut left ≡ whole_cut limit start (linked_boxes d 1 lines) →
     IsRefused limit cut boxes fault → IsCutFault (first_over limit (steps d lines)) fault
 unfolding steps
 refused_of_all limit cut d lines boxes rest left fault first same says =
-    IsCutFault-same (outcome limit cut (boxes ++ rest)) (outcome limit start (linked_boxes d 1 lines)) fault
-    (ap (outcome limit cut) first ∙ same) (says rest)
+    IsCutFault-same (whole_cut limit cut (boxes ++ rest)) (whole_cut limit start (linked_boxes d 1 lines)) fault
+    (ap (whole_cut limit cut) first ∙ same) (says rest)

@@ -1,6 +1,7 @@
+pub mod Counts
 pub mod Cuts
 pub mod FirstLines
 pub mod Gathered
 pub mod Loops
-pub mod RealPoints
+pub mod PolicyLaws
 pub mod Standing

@@ -1,14 +1,16 @@
 -- The entries of a policy without overlaps, and the order in which they come (RFC 4301 Appendix B).
-use Rattle.std.specs.Prelude.{ℕ, ◌+◌, Bool, List, [], ◌∷◌, ◌++◌, map}
+use Rattle.std.specs.Prelude.{ℕ, ◌+◌, Bool, List, [], ◌∷◌, ◌++◌, map, filter}
 use Rattle.sel_box.specs.declared.any_box.AnyBox.{AnyBox}
 use Rattle.sel_box.specs.declared.packet.Direction.{Direction}
+use Rattle.sel_region.specs.Cutting.{cut_all}
+use Rattle.sel_box.specs.BoxRegion.{box_minus}
 use Rattle.sel_box.specs.Boxes.{box_has}
 use Rattle.sel_box.specs.Point.{PointFields}
+use Rattle.sel_box.specs.SomePoint.{has_real_point}
 use Rattle.spd_line.specs.declared.line.LineParts.{LineParts}
 use Rattle.spd_line.specs.declared.line_boxes.LineBox.{LineBox}
 use Rattle.spd_line.specs.LineBoxes.{final_list, line_boxes}
 use Rattle.spd_cut.specs.declared.entry.Entry.{Entry}
-use Rattle.spd_cut.specs.Cutting.{new_pieces}
 
 -- An entry has a point where its region has it.
 abbrev pub entry_has : Entry → PointFields → Bool
@@ -27,6 +29,10 @@ linked_boxes d place (line ∷ lines) = linked place (line_boxes d line) ++ link
 -- A piece of a box is judged as the box is, and belongs to its line.
 abbrev pub piece_of : Entry → AnyBox → Entry
 piece_of box piece = record { region = piece; judgement = box.judgement; link = box.link }
+
+-- What a box adds behind the earlier ones: when all have been taken out of it, the pieces in which no packet can lie are dropped.
+abbrev pub new_pieces : List AnyBox → AnyBox → List AnyBox
+new_pieces earlier box = filter has_real_point (cut_all box_minus (box ∷ []) earlier)
 
 -- The entries of some boxes behind earlier ones: the pieces that each adds to those before it.
 abbrev pub entries_after : List AnyBox → List Entry → List Entry

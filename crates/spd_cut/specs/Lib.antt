@@ -1,6 +1,6 @@
-pub mod Cut
-pub mod Cutting
 pub mod Entries
 pub mod Fault
+pub mod Limit
 pub mod StandsFor
 pub mod Steps
+pub mod inner

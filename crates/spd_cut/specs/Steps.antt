@@ -1,13 +1,13 @@
 -- How many entries and pieces there are at each step of the cutting, of which the limit is asked.
 use Rattle.std.specs.Prelude.{ℕ, ◌+◌, Bool, nat_lt, List, [], ◌∷◌, ◌++◌, length, map, Option, Some, None, if◌then◌else◌}
 use Rattle.std.specs.List.{list_any}
+use Rattle.sel_region.specs.Cutting.{cut_each}
 use Rattle.sel_box.specs.declared.any_box.AnyBox.{AnyBox}
 use Rattle.sel_box.specs.declared.packet.Direction.{Direction}
 use Rattle.sel_box.specs.BoxRegion.{box_minus}
 use Rattle.spd_line.specs.declared.line.LineParts.{LineParts}
 use Rattle.spd_cut.specs.declared.entry.Entry.{Entry}
-use Rattle.spd_cut.specs.Cutting.{cut_each, new_pieces}
-use Rattle.spd_cut.specs.Entries.{linked_boxes}
+use Rattle.spd_cut.specs.Entries.{linked_boxes, new_pieces}
 
 -- A step: how many entries and pieces there are, and the line of the box that is being cut.
 pub record Step : Type 0 where

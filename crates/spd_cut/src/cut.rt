@@ -1,16 +1,13 @@
-ghost use Rattle.std.specs.Prelude.{◌≡◌, ◌+◌, ◌<◌, ◌≤◌, ◌++◌, ◌∷◌, [], false, drop, length, map, filter, take, vec_len, IfErr, OnErr, OnOk};
-ghost use Rattle.std.specs.List.{position};
-ghost use Rattle.std.specs.Option.{is_some};
-ghost use Rattle.spd_cut.specs.Cutting.{cut_all, cut_each};
-ghost use Rattle.spd_cut.specs.Fault.{IsLineFault};
+ghost use Rattle.std.specs.Prelude.{◌≡◌, ◌+◌, ◌<◌, ◌≤◌, false, length, IfErr, OnErr, OnOk};
+ghost use Rattle.sel_region.specs.Cutting.{cut_all};
 ghost use Rattle.spd_cut.specs.Steps.{counts_of, passes};
+ghost use Rattle.spd_cut.specs.inner.Cut.{IsLineFault};
 
 use crate::CutFault;
-use lists::NoMemory;
-use sel_region::Region;
+use sel_region::{Region, cut_each};
 
-// Cuts each of the earlier regions out of all pieces, in order, and counts before the first and after
-// each. `spare` holds nothing that matters: pieces that are cut are set aside there.
+// Takes each of the earlier regions out of all pieces, in order, and counts before the first and
+// after each.
 pub fn cut_out<R: Region>(
     earlier: &[R],
     pieces: &mut Vec<R>,
@@ -19,13 +16,15 @@ pub fn cut_out<R: Region>(
 ) -> Result<(), CutFault>
     requires { room.done ≤ room.limit }
     ensures cut { OnOk result (pieces.new.items ≡ cut_all R.minus pieces.old.items earlier.now) }
-    ensures within { OnOk result (passes room.limit (counts_of R.minus room.done pieces.old.items earlier.now) ≡ false) }
+    ensures within { OnOk result (passes room.limit
+        (counts_of R.minus room.done pieces.old.items earlier.now) ≡ false) }
     ensures room { OnOk result (room.done + length pieces.new.items ≤ room.limit) }
-    ensures limit { IfErr result (IsLineFault (passes room.limit (counts_of R.minus room.done pieces.old.items earlier.now)) room.line) }
+    ensures limit { IfErr result (IsLineFault (passes room.limit
+        (counts_of R.minus room.done pieces.old.items earlier.now)) room.line) }
 {
     for region in earlier {
         room.check(pieces.len())?;
-        cut_one_out(region, pieces, spare)?;
+        cut_each(pieces, region, spare)?;
     }
     room.check(pieces.len())
 }
@@ -52,53 +51,4 @@ impl Room {
             Ok(())
         }
     }
-}
-
-// Cuts a region out of all pieces. Those before the first that meets it stay as they are, and aren't
-// copied.
-fn cut_one_out<R: Region>(
-    region: &R,
-    pieces: &mut Vec<R>,
-    spare: &mut Vec<R>,
-) -> Result<(), NoMemory>
-    ensures { OnOk result (pieces.new.items ≡ cut_each R.minus pieces.old.items region.now) }
-{
-    match first_met(region, pieces) {
-        Some(first) => cut_from(first, region, pieces, spare),
-        None => Ok(()),
-    }
-}
-
-// The index of the first piece that has a point in common with the region.
-fn first_met<R: Region>(region: &R, pieces: &[R]) -> Option<usize>
-    ensures { result ≡ position (λ piece. is_some (R.meet piece region.now)) pieces.now }
-{
-    pieces.iter().position(|piece| piece.meet(region).is_some())
-}
-
-// Cuts a region out of the pieces from an index on.
-fn cut_from<R: Region>(
-    first: usize,
-    region: &R,
-    pieces: &mut Vec<R>,
-    spare: &mut Vec<R>,
-) -> Result<(), NoMemory>
-    requires { first ≤ vec_len pieces.old }
-    ensures { OnOk result (pieces.new.items
-        ≡ take first pieces.old.items ++ cut_each R.minus (drop first pieces.old.items) region.now) }
-{
-    spare.clear();
-    spare.extend_from_slice(&pieces[first..])?;
-    pieces.truncate(first);
-    take_out(region, spare, pieces)
-}
-
-// Appends what is left of each piece without the region.
-fn take_out<R: Region>(region: &R, pieces: &[R], left: &mut Vec<R>) -> Result<(), NoMemory>
-    ensures { OnOk result (left.new.items ≡ left.old.items ++ cut_each R.minus pieces.now region.now) }
-{
-    for piece in pieces {
-        piece.minus(region, left)?;
-    }
-    Ok(())
 }

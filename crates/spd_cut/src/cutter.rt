@@ -1,7 +1,7 @@
 ghost use Rattle.std.specs.Prelude.{◌≡◌, ◌≤◌, ◌+◌, ◌++◌, ◌∷◌, [], filter, length, map, IfErr, OnOk};
 ghost use Rattle.sel_box.specs.SomePoint.{has_real_point};
-ghost use Rattle.spd_cut.specs.Cut.{Continues, IsRefused};
 ghost use Rattle.spd_cut.specs.Entries.{linked, piece_of};
+ghost use Rattle.spd_cut.specs.inner.Cut.{Continues, IsRefused};
 
 use crate::cut::{Room, cut_out};
 use crate::{CutFault, Entry, EntryList, NoMemory};
@@ -21,7 +21,7 @@ pub struct Cutter {
 }
 
 impl Model for Cutter {
-    ghost use Rattle.spd_cut.specs.Cut.{Cut};
+    ghost use Rattle.spd_cut.specs.inner.Cut.{Cut};
 
     ghost Value = { Cut };
 
@@ -103,7 +103,8 @@ fn begin(pieces: &mut Vec<AnyBox>, region: AnyBox) -> Result<(), NoMemory>
 
 // Puts an entry at the end for each piece of a box in which some packet can lie.
 fn put_real(pieces: &[AnyBox], uncut: &Entry, entries: &mut EntryList) -> Result<(), NoMemory>
-    ensures put { OnOk result (entries.new ≡ entries.old ++ map (piece_of uncut.now) (filter has_real_point pieces.now)) }
+    ensures put { OnOk result (entries.new
+        ≡ entries.old ++ map (piece_of uncut.now) (filter has_real_point pieces.now)) }
     ensures few { OnOk result (length entries.new ≤ length entries.old + length pieces.now) }
 {
     for piece in pieces {

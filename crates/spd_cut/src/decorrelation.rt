@@ -5,7 +5,7 @@ ghost use Rattle.spd_cut.specs.StandsFor.{AreLinked, StandsFor};
 ghost use Rattle.spd_cut.specs.Steps.{first_over, steps};
 
 use crate::cutter::Cutter;
-use crate::{CutFault, EntryList};
+use crate::{CutFault, EntryList, laws};
 use sel_box::Direction;
 use spd_line::Lines;
 use std::alloc::Global;
@@ -15,9 +15,9 @@ use std::alloc::Global;
 /// `final` last; within a line in the order of its boxes, and within a box in the order in which it
 /// was cut.
 ///
-/// The limit is the most entries and pieces that there may be at once; pieces in which no packet can
-/// lie count until their box is finished. `Limit` comes exactly where a count passes the limit, with
-/// the line of the first such count.
+/// The limit is the most entries and pieces that there may be at once; pieces in which no packet
+/// can lie count until their box is finished. `Limit` comes exactly where a count passes the limit,
+/// with the line of the first such count.
 ///
 /// Each box is cut by all boxes before it, so this takes time by their number times that of the
 /// pieces that it has. It takes memory for the entries, a region for each box, and twice the most
@@ -32,17 +32,17 @@ pub fn decorrelate<L: Lines>(
     ensures entries { IfOk result (λ list. list ≡ entries direction (L.lines lines.now)) }
     ensures stands { IfOk result (λ list. StandsFor list direction (L.lines lines.now)) }
     ensures within { OnOk result (first_over limit (steps direction (L.lines lines.now)) ≡ None) }
-    ensures limit { IfErr result (IsCutFault (first_over limit (steps direction (L.lines lines.now)))) }
+    ensures limit { IfErr result
+        (IsCutFault (first_over limit (steps direction (L.lines lines.now)))) }
     ensures few { IfOk result (λ list. length list ≤ limit) }
     ensures links { IfOk result (AreLinked (length (L.lines lines.now))) }
 {
+    laws::entries_stand_for();
     let mut cutter = Cutter::new(alloc);
     let count = lines.count();
     for place in 1..count + 1 {
-        if let Some(line) = lines.at(place) {
-            let boxes = spd_line::boxes(alloc, line, direction)?;
-            cutter.add_line(boxes.as_slice(), place, limit)?;
-        }
+        let boxes = spd_line::boxes(alloc, lines.line(place), direction)?;
+        cutter.add_line(boxes.as_slice(), place, limit)?;
     }
     cutter.add_line(&spd_line::final_boxes(), count + 1, limit)?;
     Ok(cutter.into_entries())

@@ -14,15 +14,15 @@ pub enum CutFault {
 
 impl fmt::Display for CutFault {
     ghost use Rattle.std.specs.Prelude.{Some};
-    ghost use Rattle.spd_cut.specs.Fault.{fault_text};
+    ghost use Rattle.spd_cut.specs.Fault.{cut_fault_text};
 
-    ghost output = { λ fault. Some (fault_text fault) };
+    ghost output = { λ fault. Some (cut_fault_text fault) };
 
     fn fmt<W: fmt::Write>(&self, f: &mut fmt::Formatter<W>) -> fmt::Result {
-        f.write_str(match self {
-            CutFault::Limit { .. } => "too many entries",
-            CutFault::NoMemory => "out of memory",
-        })
+        match self {
+            CutFault::Limit { line } => write!(f, "entry limit: line {line}"),
+            CutFault::NoMemory => f.write_str("out of memory"),
+        }
     }
 }
 

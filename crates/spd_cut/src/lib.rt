@@ -1,5 +1,5 @@
-//! Taking the overlaps out of a policy (RFC 4301 Appendix B): entries that have no point in common and
-//! together answer as the ordered lines do.
+//! Taking the overlaps out of a policy (RFC 4301 Appendix B): entries that have no point in common
+//! and together answer as the ordered lines do.
 #![tactic(auto)]
 
 pub use decorrelation::decorrelate;
@@ -13,5 +13,3 @@ mod decorrelation;
 mod entry;
 mod fault;
 pub mod laws;
-#[cfg(test)]
-mod tests;

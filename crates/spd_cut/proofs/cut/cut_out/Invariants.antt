@@ -1,5 +1,5 @@
 use Rattle.std.proofs.Common.{◌≡◌, drop}
-use Rattle.spd_cut.specs.Cutting.{cut_all}
+use Rattle.sel_region.specs.Cutting.{cut_all}
 use Rattle.spd_cut.specs.Steps.{counts_of, passes}
 use Rattle.spd_cut.proofs.cut.cut_out.Given as goal
 

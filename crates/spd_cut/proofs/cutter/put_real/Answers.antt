@@ -16,13 +16,15 @@ loop-piece-preserved c =
       | then-has_real+in_ok-push w ↦
           let is : c.if-has_real.entries ≡ put ++ make piece ∷ [] = w.entries-is ∙ w.in_ok-push.ensures.ok in
           rw is record {
-            put = kept_next has_real_point make put c.args.pieces.now index piece c.loop-piece-test.true c.piece-item.is (sym c.has_real.ensures.test ∙ w.if-has_real.true)
+            put = kept_next has_real_point make put c.args.pieces.now index piece c.loop-piece-test.true c.piece-item.is
+                (sym c.has_real.ensures.test ∙ w.if-has_real.true)
                 ∙ c.loop-piece.invariant.put;
             few = omega (arith, length_push put (make piece));
           }
       | else-has_real w ↦
           rw w.entries-is record {
-            put = dropped_next has_real_point make put c.args.pieces.now index piece c.loop-piece-test.true c.piece-item.is (sym c.has_real.ensures.test ∙ w.if-has_real.false)
+            put = dropped_next has_real_point make put c.args.pieces.now index piece c.loop-piece-test.true c.piece-item.is
+                (sym c.has_real.ensures.test ∙ w.if-has_real.false)
                 ∙ c.loop-piece.invariant.put;
             few = omega arith;
           }

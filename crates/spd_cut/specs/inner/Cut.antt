@@ -1,5 +1,5 @@
 -- How far the cutting of a policy is, and what it comes to.
-use Rattle.std.specs.Prelude.{◌≡◌, ℕ, List, ◌++◌, length, Option}
+use Rattle.std.specs.Prelude.{◌≡◌, ℕ, Bool, true, List, ◌++◌, length, Option}
 use Rattle.sel_box.specs.declared.any_box.AnyBox.{AnyBox}
 use Rattle.spd_cut.specs.declared.entry.Entry.{Entry}
 use Rattle.spd_cut.specs.declared.fault.CutFault.{CutFault}
@@ -13,21 +13,28 @@ pub record Cut : Type 0 where
   pub entries : List Entry
 
 -- All entries, and the line of the first step behind what is cut so far that passes the limit.
-pub record Outcome : Type 0 where
+pub record WholeCut : Type 0 where
   pub entries : List Entry
   pub over : Option ℕ
 
 -- What comes of it with some boxes more.
-abbrev pub outcome : ℕ → Cut → List Entry → Outcome
-outcome limit cut boxes = record {
+abbrev pub whole_cut : ℕ → Cut → List Entry → WholeCut
+whole_cut limit cut boxes = record {
   entries = cut.entries ++ entries_after cut.earlier boxes;
   over = first_over limit (steps_after cut.earlier (length cut.entries) boxes);
 }
 
--- These boxes were cut within the limit: whatever comes after them, the outcome is the same.
+-- These boxes were cut within the limit: whatever comes after them, the same comes of all.
 abbrev pub Continues : ℕ → Cut → List Entry → Cut → Type 0
-Continues limit before boxes after = (rest : List Entry) → outcome limit after rest ≡ outcome limit before (boxes ++ rest)
+Continues limit before boxes after =
+    (rest : List Entry) → whole_cut limit after rest ≡ whole_cut limit before (boxes ++ rest)
 
 -- They weren't, for this fault, whatever comes after them.
 abbrev pub IsRefused : ℕ → Cut → List Entry → CutFault → Type 0
-IsRefused limit before boxes fault = (rest : List Entry) → IsCutFault (outcome limit before (boxes ++ rest)).over fault
+IsRefused limit before boxes fault =
+    (rest : List Entry) → IsCutFault (whole_cut limit before (boxes ++ rest)).over fault
+
+-- The fault of a box of one line: the limit names that line, where a count passes.
+abbrev pub IsLineFault : Bool → ℕ → CutFault → Type 0
+IsLineFault passed place (CutFault.Limit line) = (line ≡ place) × (passed ≡ true)
+IsLineFault passed place CutFault.NoMemory = Unit {0}
