@@ -2,5 +2,6 @@ mod Each
 mod Lines
 mod Names
 mod Parses
+mod Shorts
 mod Tables
 mod Texts

@@ -4,7 +4,8 @@ use Rattle.std.specs.Str.{IsUtf8}
 use Rattle.std.proofs.lemmas.Str.{utf8_valid_len-IsUtf8}
 use Rattle.spd_file.specs.Parsed.{parsed}
 
-pub parsed-found : {A : Type 0} (parse : List ℕ → Option A) (bytes text : List ℕ) (found : A) → text ≡ bytes → IsUtf8 bytes → parse text ≡ Some found → parsed parse bytes ≡ Ok found
+pub parsed-found : {A : Type 0} (parse : List ℕ → Option A) (bytes text : List ℕ) (found : A)
+    → text ≡ bytes → IsUtf8 bytes → parse text ≡ Some found → parsed parse bytes ≡ Ok found
 parsed-found parse bytes text found same valid is =
     let whole = utf8_valid_len-IsUtf8 bytes valid in
     let taken : parse bytes ≡ Some found = rw (← same) is in

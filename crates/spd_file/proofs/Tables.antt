@@ -4,14 +4,15 @@ use Rattle.std.specs.List.{list_all}
 use Rattle.std.specs.Prelude.{map}
 use Rattle.toml.specs.View.{items_view, members_view, view}
 use Rattle.toml.specs.declared.value.Value.{Value}
-use Rattle.spd_file.specs.Line.{all_keys}
-use Rattle.spd_file.specs.Values.{values_of}
+use Rattle.spd_file.specs.Line.{only_keys}
+use Rattle.spd_file.specs.Values.{array_values}
 
-pub all_keys-keys : (test : List ℕ → Bool) (entries : List (String Global × Value)) → all_keys test (members_view entries) ≡ list_all (λ key. test (string_bytes key)) (map (λ e. e.0) entries)
-all_keys-keys test [] = refl
-all_keys-keys test (e ∷ es) = ap (λ rest. test (string_bytes e.0) && rest) (all_keys-keys test es)
+pub only_keys-keys : (test : List ℕ → Bool) (entries : List (String Global × Value))
+    → only_keys test (members_view entries) ≡ list_all (λ key. test (string_bytes key)) (map (λ e. e.0) entries)
+only_keys-keys test [] = refl
+only_keys-keys test (e ∷ es) = ap (λ rest. test (string_bytes e.0) && rest) (only_keys-keys test es)
 
 -- The values of an array are those of its items.
-pub values_of-view : (items : List Value) → values_of (items_view items) ≡ map view items
-values_of-view [] = refl
-values_of-view (v ∷ vs) = ap (λ rest. view v ∷ rest) (values_of-view vs)
+pub array_values-view : (items : List Value) → array_values (items_view items) ≡ map view items
+array_values-view [] = refl
+array_values-view (v ∷ vs) = ap (λ rest. view v ∷ rest) (array_values-view vs)

@@ -5,7 +5,7 @@ use Rattle.std.specs.Str.{bytes_eq}
 use Rattle.toml.specs.Data.{Data, string, array}
 use Rattle.spd_line.specs.declared.line.Pfp.{Pfp}
 use Rattle.spd_file.specs.declared.why.Why.{Why}
-use Rattle.spd_file.specs.Values.{is_text, values_of}
+use Rattle.spd_file.specs.Values.{is_text, array_values}
 
 abbrev pub no_flags : Pfp
 no_flags = record { local = false; remote = false; protocol = false; local_port = false; remote_port = false }
@@ -21,9 +21,9 @@ is_flag (string text) = is_flag_word text
 is_flag _ = false
 
 -- The value is this text.
-abbrev pub is_word : List ℕ → Data → Bool
-is_word word (string text) = bytes_eq text word
-is_word word _ = false
+abbrev pub says : List ℕ → Data → Bool
+says word (string text) = bytes_eq text word
+says word _ = false
 
 -- The selectors that some values name, each as often as one likes.
 abbrev pub flags_in : List Data → Result Pfp Why
@@ -31,14 +31,14 @@ flags_in values =
     if not (list_all is_text values) then Err Why.WrongKind
     else if not (list_all is_flag values) then Err Why.NotInGrammar
     else Ok record {
-      local = list_any (is_word (codes "local")) values;
-      remote = list_any (is_word (codes "remote")) values;
-      protocol = list_any (is_word (codes "protocol")) values;
-      local_port = list_any (is_word (codes "local_port")) values;
-      remote_port = list_any (is_word (codes "remote_port")) values;
+      local = list_any (says (codes "local")) values;
+      remote = list_any (says (codes "remote")) values;
+      protocol = list_any (says (codes "protocol")) values;
+      local_port = list_any (says (codes "local_port")) values;
+      remote_port = list_any (says (codes "remote_port")) values;
     }
 
 -- The flags that an array names.
 abbrev pub flags_of : Data → Result Pfp Why
-flags_of (array items) = flags_in (values_of items)
+flags_of (array items) = flags_in (array_values items)
 flags_of _ = Err Why.WrongKind

@@ -1,12 +1,11 @@
 pub mod Fault
 pub mod Flags
 pub mod Key
-pub mod Lent
 pub mod Line
 pub mod Parsed
 pub mod Policy
-pub mod Ready
 pub mod Steps
 pub mod Values
 pub mod Why
 pub mod Words
+pub mod inner

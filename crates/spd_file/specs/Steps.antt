@@ -14,9 +14,9 @@ Ok value >> next = next
 Err fault >> next = Err fault
 
 -- What each of some values is read as, in order.
-abbrev pub each : {V A E : Type 0} → (V → Result A E) → List V → Result (List A) E
-each read [] = Ok []
-each read (value ∷ values) = do
+abbrev pub all_read : {V A E : Type 0} → (V → Result A E) → List V → Result (List A) E
+all_read read [] = Ok []
+all_read read (value ∷ values) = do
   first ← read value
-  rest ← each read values
+  rest ← all_read read values
   Ok (first ∷ rest)

@@ -1,11 +1,12 @@
 -- What the values of single keys of a line mean.
-use Rattle.std.specs.Prelude.{◌≢◌, ℕ, ℤ, pos, negsuc, List, codes, nat_le, Result, Ok, Err, if◌then◌else◌}
+use Rattle.std.specs.Prelude.{ℕ, ℤ, pos, negsuc, List, codes, nat_le, Result, Ok, Err, if◌then◌else◌}
 use Rattle.std.specs.Str.{bytes_eq}
 use Rattle.toml.specs.Data.{Data, string, integer}
 use Rattle.sel_text.specs.Name.{name_meaning}
 use Rattle.spd_line.specs.declared.action.Ipsec.{Ipsec}
 use Rattle.spd_line.specs.declared.line.ProtocolItem.{ProtocolItem}
 use Rattle.spd_line.specs.declared.line.Way.{Way}
+use Rattle.spd_line.specs.Policy.{final_name}
 use Rattle.spd_file.specs.declared.why.Why.{Why}
 use Rattle.spd_file.specs.declared.word.ActionWord.{ActionWord}
 use Rattle.spd_file.specs.declared.word.ModeWord.{ModeWord}
@@ -13,14 +14,10 @@ use Rattle.spd_file.specs.Steps.{◌>>=◌}
 use Rattle.spd_file.specs.Values.{by_grammar}
 
 -- A name, but not that of the line behind all lines.
-abbrev pub name_of : List ℕ → Result (List ℕ) Why
-name_of text = do
+abbrev pub line_name_of : List ℕ → Result (List ℕ) Why
+line_name_of text = do
   name ← by_grammar (name_meaning text)
-  if bytes_eq name (codes "final") then Err Why.Reserved else Ok name
-
--- The bytes aren't the name of the line behind all lines.
-abbrev pub IsUnreserved : List ℕ → Type 0
-IsUnreserved name = name ≢ codes "final"
+  if bytes_eq name final_name then Err Why.Reserved else Ok name
 
 abbrev pub action_word_of : List ℕ → Result ActionWord Why
 action_word_of text =
@@ -61,7 +58,7 @@ protocol_number_of (pos number) = if nat_le number 255 then Ok (ProtocolItem.Num
 protocol_number_of (negsuc number) = Err Why.OutOfRange
 
 -- A protocol: its number, or a word.
-abbrev pub protocol_of : Data → Result ProtocolItem Why
-protocol_of (integer number) = protocol_number_of number
-protocol_of (string text) = protocol_word_of text
-protocol_of _ = Err Why.WrongKind
+abbrev pub protocol_item : Data → Result ProtocolItem Why
+protocol_item (integer number) = protocol_number_of number
+protocol_item (string text) = protocol_word_of text
+protocol_item _ = Err Why.WrongKind

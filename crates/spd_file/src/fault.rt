@@ -4,8 +4,8 @@ use std::alloc::AllocFailed;
 use std::error::Error;
 use std::fmt;
 
-/// Why a policy, or a line by itself, is refused: the first of its faults in the order in which they
-/// stand here, line by line. Lines are counted from 1; a line by itself is line 1.
+/// Why a policy, or a line by itself, is refused: the first of its faults in the order in which
+/// they stand here, line by line. Lines are counted from 1; a line by itself is line 1.
 #[derive(Clone, Copy, Debug, PartialEq, Eq)]
 pub enum PolicyFault {
     /// The text isn't TOML in UTF-8.
@@ -31,15 +31,7 @@ impl fmt::Display for PolicyFault {
     ghost output = { λ fault. Some (policy_fault_text fault) };
 
     fn fmt<W: fmt::Write>(&self, f: &mut fmt::Formatter<W>) -> fmt::Result {
-        match self {
-            PolicyFault::Syntax => f.write_str("syntax"),
-            PolicyFault::Top { key, why } => write!(f, "top {key} {why}"),
-            PolicyFault::TooManyLines => f.write_str("too many lines"),
-            PolicyFault::Line { index, key, why } => write!(f, "line {index} {key} {why}"),
-            PolicyFault::Rule { index, fault } => write!(f, "line {index} {fault}"),
-            PolicyFault::DuplicateName { index } => write!(f, "line {index} duplicate name"),
-            PolicyFault::NoMemory => f.write_str("out of memory"),
-        }
+        f.write_str(self.text().as_str())
     }
 }
 

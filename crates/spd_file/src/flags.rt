@@ -1,8 +1,8 @@
 ghost use Rattle.std.specs.Prelude.{◌≡◌};
 ghost use Rattle.std.specs.List.{list_all, list_any};
 ghost use Rattle.toml.specs.View.{items_view, view};
-ghost use Rattle.spd_file.specs.Flags.{flags_in, is_flag, is_flag_word, is_word};
-ghost use Rattle.spd_file.specs.Values.{values_of};
+ghost use Rattle.spd_file.specs.Flags.{flags_in, is_flag, is_flag_word, says};
+ghost use Rattle.spd_file.specs.Values.{array_values};
 
 use crate::Why;
 use crate::items::are_texts;
@@ -38,7 +38,7 @@ impl KeyValue for Pfp {
 // The flags that some values name.
 #[tactic(auto, using(crate::proofs::Texts::flags_lemmas))]
 fn read_words(values: &[Value]) -> Result<Pfp, Why>
-    ensures { result ≡ flags_in (values_of (items_view values.now)) }
+    ensures { result ≡ flags_in (array_values (items_view values.now)) }
 {
     if !are_texts(values) {
         return Err(Why::WrongKind);
@@ -63,35 +63,28 @@ fn are_flags(values: &[Value]) -> bool
 
 // Whether some value is the word.
 fn has_word(values: &[Value], word: &str) -> bool
-    ensures { result ≡ list_any (λ value. is_word word.now (view value)) values.now }
+    ensures { result ≡ list_any (λ value. says word.now (view value)) values.now }
 {
-    values.iter().any(|value| is_word(word, value))
+    values.iter().any(|value| says(word, value))
 }
 
 fn is_flag(value: &Value) -> bool
     ensures { result ≡ is_flag (view value.now) }
 {
-    match value {
-        Value::String(text) => is_flag_word(text.as_str()),
-        _ => false,
-    }
+    matches!(value, Value::String(text) if is_flag_word(text.as_str()))
 }
 
 fn is_flag_word(text: &str) -> bool
     ensures { result ≡ is_flag_word text.now }
 {
-    text == "local"
-        || text == "remote"
-        || text == "protocol"
-        || text == "local_port"
-        || text == "remote_port"
+    matches!(
+        text,
+        "local" | "remote" | "protocol" | "local_port" | "remote_port"
+    )
 }
 
-fn is_word(word: &str, value: &Value) -> bool
-    ensures { result ≡ is_word word.now (view value.now) }
+fn says(word: &str, value: &Value) -> bool
+    ensures { result ≡ says word.now (view value.now) }
 {
-    match value {
-        Value::String(text) => text.as_str() == word,
-        _ => false,
-    }
+    matches!(value, Value::String(text) if text.as_str() == word)
 }

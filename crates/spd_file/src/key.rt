@@ -1,4 +1,4 @@
-ghost use Rattle.std.specs.Prelude.{◌≡◌, ◌≤◌, length};
+ghost use Rattle.std.specs.Prelude.{◌≡◌};
 ghost use Rattle.spd_file.specs.Key.{line_key_text, top_key_text};
 
 use std::fmt;
@@ -17,8 +17,7 @@ pub enum TopKey {
 impl TopKey {
     /// The key as it stands in the file, and `unknown key` for one that a policy doesn't have.
     pub fn as_str(self) -> &'static str
-        ensures text { result.now ≡ top_key_text self }
-        ensures short { length result.now ≤ 11 }
+        ensures { result.now ≡ top_key_text self }
     {
         match self {
             TopKey::Format => "format",
@@ -65,8 +64,7 @@ impl LineKey {
     /// The key as it stands in the file, `table` for the line as a whole, and `unknown key` for one
     /// that a line doesn't have.
     pub fn as_str(self) -> &'static str
-        ensures text { result.now ≡ line_key_text self }
-        ensures short { length result.now ≤ 11 }
+        ensures { result.now ≡ line_key_text self }
     {
         match self {
             LineKey::Whole => "table",

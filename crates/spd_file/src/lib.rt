@@ -1,4 +1,5 @@
-//! The policy file: a TOML document of lines, and the reader that gives its lines or its first fault.
+//! The policy file: a TOML document of lines, and the reader that gives its lines or its first
+//! fault.
 #![tactic(auto)]
 
 pub use fault::PolicyFault;
@@ -9,13 +10,12 @@ pub use policy::read_policy;
 pub use why::Why;
 
 mod fault;
+mod fault_text;
 mod flags;
 mod items;
 mod key;
 mod line;
 mod line_table;
-#[cfg(test)]
-mod line_tests;
 mod policy;
 mod table;
 #[cfg(test)]

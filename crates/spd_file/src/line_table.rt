@@ -1,15 +1,17 @@
-ghost use Rattle.std.specs.Prelude.{◌≡◌, ◌≢◌, ◌∷◌, [], Ok, Err, IfOk, IfErr, All, length, map};
+ghost use Rattle.std.specs.Prelude.{◌≡◌, ◌≢◌, ◌∷◌, [], Ok, Err, IfOk, IfErr, length, map};
 ghost use Rattle.toml.specs.View.{items_view, table_view, view};
 ghost use Rattle.spd_file.specs.declared.fault.PolicyFault.{PolicyFault};
-ghost use Rattle.spd_file.specs.Lent.{data_now};
-ghost use Rattle.spd_file.specs.Line.{at_key, key, mode_of, parts_of, protected, treatment_of, unprotected, value_at};
-ghost use Rattle.spd_file.specs.Ready.{IsReady};
-ghost use Rattle.spd_file.specs.Steps.{each};
-ghost use Rattle.spd_file.specs.Values.{barred, by_text, optional, texts_in, texts_of, values_of};
+ghost use Rattle.spd_file.specs.inner.Borrowed.{data_now};
+ghost use Rattle.spd_file.specs.Line.{at_key, key, key_value, mode_of, parts_of, protected};
+ghost use Rattle.spd_file.specs.Line.{treatment_of, unprotected};
+ghost use Rattle.spd_file.specs.inner.ReadParts.{IsReady};
+ghost use Rattle.spd_file.specs.Steps.{all_read};
+ghost use Rattle.spd_file.specs.Values.{array_values, forbidden, text_by_grammar, optional};
+ghost use Rattle.spd_file.specs.Values.{texts_in, texts_of};
 
 use crate::flags::NO_FLAGS;
-use crate::items::{Item, are_texts, list_of_one, read_item};
-use crate::table::{find, has_line_keys};
+use crate::items::{Item, are_texts, read_item};
+use crate::table::{find, has_keys};
 use crate::value::KeyValue;
 use crate::word::{ActionWord, ModeWord};
 use crate::{LineKey, PolicyFault, Why};
@@ -29,12 +31,13 @@ impl LineTable<'_> {
     // The parts of the line, by the keys of its table in their order.
     #[tactic(auto, unfolding(crate::specs::Line::parts_of))]
     pub fn parts(&self, alloc: Global) -> Result<LineParts, PolicyFault>
-        ensures parts { IfOk result (λ parts. parts_of self.now.index (table_view self.now.table.now) ≡ Ok parts) }
+        ensures parts { IfOk result (λ parts.
+            parts_of self.now.index (table_view self.now.table.now) ≡ Ok parts) }
         ensures fault { IfErr result (λ fault. fault ≢ PolicyFault.NoMemory
             → parts_of self.now.index (table_view self.now.table.now) ≡ Err fault) }
         ensures ready { IfOk result IsReady }
     {
-        if !has_line_keys(self.table) {
+        if !has_keys::<LineKey>(self.table) {
             return Err(self.fault(LineKey::Unknown, Why::NotHere));
         }
         let name = self.read(LineKey::Name)?;
@@ -75,11 +78,11 @@ impl LineTable<'_> {
     fn unprotected(&self, action: Action) -> Result<(Pfp, Action), PolicyFault>
         ensures { result ≡ unprotected self.now.index (table_view self.now.table.now) action }
     {
-        self.bar(LineKey::Pfp)?;
-        self.bar(LineKey::Ipsec)?;
-        self.bar(LineKey::Mode)?;
-        self.bar(LineKey::GateLocal)?;
-        self.bar(LineKey::GateRemote)?;
+        self.refuse(LineKey::Pfp)?;
+        self.refuse(LineKey::Ipsec)?;
+        self.refuse(LineKey::Mode)?;
+        self.refuse(LineKey::GateLocal)?;
+        self.refuse(LineKey::GateRemote)?;
         Ok((NO_FLAGS, action))
     }
 
@@ -101,8 +104,8 @@ impl LineTable<'_> {
     {
         match word {
             ModeWord::Transport => {
-                self.bar(LineKey::GateLocal)?;
-                self.bar(LineKey::GateRemote)?;
+                self.refuse(LineKey::GateLocal)?;
+                self.refuse(LineKey::GateRemote)?;
                 Ok(Mode::Transport)
             }
             ModeWord::Tunnel => {
@@ -127,8 +130,8 @@ impl LineTable<'_> {
     }
 
     // Refuses a key that mustn't stand.
-    fn bar(&self, name: LineKey) -> Result<(), PolicyFault>
-        ensures { result ≡ key self.now.index (table_view self.now.table.now) name barred }
+    fn refuse(&self, name: LineKey) -> Result<(), PolicyFault>
+        ensures { result ≡ key self.now.index (table_view self.now.table.now) name forbidden }
     {
         match self.value(name) {
             None => Ok(()),
@@ -136,28 +139,27 @@ impl LineTable<'_> {
         }
     }
 
-    // The items of a selector: a text by itself or an array of them, and one item where the key doesn't
-    // stand.
+    // The items of a selector: a text by itself or an array of them, and one item where the key
+    // doesn't stand.
     fn items<T: Item>(
         &self,
         alloc: Global,
         name: LineKey,
         absent: T,
     ) -> Result<List<T>, PolicyFault>
-        requires sound { T.IsSound absent }
-        ensures items { IfOk result (λ items. key self.now.index (table_view self.now.table.now) name
+        ensures items { IfOk result (λ items.
+            key self.now.index (table_view self.now.table.now) name
             (optional (absent ∷ []) (texts_of T.meaning)) ≡ Ok items) }
         ensures fault { IfErr result (λ fault. fault ≢ PolicyFault.NoMemory
             → key self.now.index (table_view self.now.table.now) name
             (optional (absent ∷ []) (texts_of T.meaning)) ≡ Err fault) }
         ensures some { IfOk result (λ items. items ≢ []) }
-        ensures sound { IfOk result (All T.IsSound) }
     {
         match self.value(name) {
-            None => Ok(list_of_one(alloc, absent)?),
+            None => Ok(List::of_one(alloc, absent)?),
             Some(Value::Array(values)) => self.texts(alloc, name, values.as_slice()),
             Some(value) => match read_item(value) {
-                Ok(only) => Ok(list_of_one(alloc, only)?),
+                Ok(only) => Ok(List::of_one(alloc, only)?),
                 Err(why) => Err(self.fault(name, why)),
             },
         }
@@ -171,11 +173,12 @@ impl LineTable<'_> {
         key: LineKey,
         values: &[Value],
     ) -> Result<List<T>, PolicyFault>
-        ensures items { IfOk result (λ items. texts_in T.meaning (values_of (items_view values.now)) ≡ Ok items) }
+        ensures items { IfOk result (λ items.
+            texts_in T.meaning (array_values (items_view values.now)) ≡ Ok items) }
         ensures fault { IfErr result (λ fault. fault ≢ PolicyFault.NoMemory
-            → at_key self.now.index key (texts_in T.meaning (values_of (items_view values.now))) ≡ Err fault) }
+            → at_key self.now.index key (texts_in T.meaning (array_values (items_view values.now)))
+            ≡ Err fault) }
         ensures some { IfOk result (λ items. items ≢ []) }
-        ensures sound { IfOk result (All T.IsSound) }
     {
         if !are_texts(values) {
             return Err(self.fault(key, Why::WrongKind));
@@ -183,20 +186,21 @@ impl LineTable<'_> {
         if values.is_empty() {
             return Err(self.fault(key, Why::Empty));
         }
-        self.each(alloc, key, values)
+        self.items_of(alloc, key, values)
     }
 
-    fn each<T: Item>(
+    fn items_of<T: Item>(
         &self,
         alloc: Global,
         key: LineKey,
         values: &[Value],
     ) -> Result<List<T>, PolicyFault>
-        ensures items { IfOk result (λ items. each (by_text T.meaning) (map view values.now) ≡ Ok items) }
+        ensures items { IfOk result (λ items.
+            all_read (text_by_grammar T.meaning) (map view values.now) ≡ Ok items) }
         ensures fault { IfErr result (λ fault. fault ≢ PolicyFault.NoMemory
-            → at_key self.now.index key (each (by_text T.meaning) (map view values.now)) ≡ Err fault) }
+            → at_key self.now.index key (all_read (text_by_grammar T.meaning) (map view values.now))
+            ≡ Err fault) }
         ensures count { IfOk result (λ items. length items ≡ length values.now) }
-        ensures sound { IfOk result (All T.IsSound) }
     {
         let mut items = List::new(alloc);
         for value in values {
@@ -209,7 +213,7 @@ impl LineTable<'_> {
     }
 
     fn value(&self, key: LineKey) -> Option<&Value>
-        ensures { data_now result ≡ value_at key (table_view self.now.table.now) }
+        ensures { data_now result ≡ key_value key (table_view self.now.table.now) }
     {
         find(self.table, key.as_str())
     }

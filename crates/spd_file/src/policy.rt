@@ -1,26 +1,26 @@
-ghost use Rattle.std.specs.Prelude.{◌≡◌, ◌≢◌, ◌≤◌, [], Ok, Err, IfOk, IfErr, length, map, option_map};
+ghost use Rattle.std.specs.Prelude.{◌≡◌, ◌≢◌, ◌≤◌, [], Ok, Err, IfOk, IfErr, length, map};
 ghost use Rattle.toml.specs.View.{items_view, table_view, view};
+ghost use Rattle.spd_line.specs.Policy.{IsPolicy, most_lines};
 ghost use Rattle.spd_file.specs.declared.fault.PolicyFault.{PolicyFault};
-ghost use Rattle.spd_file.specs.Lent.{data_now};
-ghost use Rattle.spd_file.specs.Policy.{at_top, format_of, lines_behind, lines_of, IsPolicy, policy_meaning, policy_of};
-ghost use Rattle.spd_file.specs.Values.{required, values_of};
+ghost use Rattle.spd_file.specs.inner.Borrowed.{data_now};
+ghost use Rattle.spd_file.specs.Policy.{at_top, format_of, lines_behind};
+ghost use Rattle.spd_file.specs.Policy.{policy_lines, policy_meaning, policy_of};
+ghost use Rattle.spd_file.specs.Values.{array_values, required};
 
 use crate::line::read_value;
-use crate::table::{find, has_top_keys};
+use crate::table::{find, has_keys};
 use crate::{PolicyFault, TopKey, Why};
-use spd_line::LineList;
+use spd_line::{LineList, MOST_LINES};
 use std::alloc::Global;
 use std::collections::BTreeSet;
 use toml::{Table, Value};
 
-/// The most lines of a policy.
-const MOST_LINES: usize = 4096;
-
-/// Reads a policy file. Takes time by the length of the file and, for n lines, n log n comparisons of
-/// names.
+/// Reads a policy file. Takes time by the length of the file and, for n lines, n log n comparisons
+/// of names.
 pub fn read_policy(alloc: Global, bytes: &[u8]) -> Result<LineList, PolicyFault>
     ensures lines { IfOk result (λ lines. policy_meaning bytes.now ≡ Ok lines) }
-    ensures fault { IfErr result (λ fault. fault ≢ PolicyFault.NoMemory → policy_meaning bytes.now ≡ Err fault) }
+    ensures fault { IfErr result (λ fault. fault ≢ PolicyFault.NoMemory
+        → policy_meaning bytes.now ≡ Err fault) }
     ensures policy { IfOk result IsPolicy }
 {
     let Ok(text) = str::from_utf8(bytes) else {
@@ -35,10 +35,11 @@ pub fn read_policy(alloc: Global, bytes: &[u8]) -> Result<LineList, PolicyFault>
 
 fn read_table(alloc: Global, table: &Table) -> Result<LineList, PolicyFault>
     ensures lines { IfOk result (λ lines. policy_of (table_view table.now) ≡ Ok lines) }
-    ensures fault { IfErr result (λ fault. fault ≢ PolicyFault.NoMemory → policy_of (table_view table.now) ≡ Err fault) }
+    ensures fault { IfErr result (λ fault. fault ≢ PolicyFault.NoMemory
+        → policy_of (table_view table.now) ≡ Err fault) }
     ensures policy { IfOk result IsPolicy }
 {
-    if !has_top_keys(table) {
+    if !has_keys::<TopKey>(table) {
         return Err(PolicyFault::Top {
             key: TopKey::Unknown,
             why: Why::NotHere,
@@ -50,7 +51,7 @@ fn read_table(alloc: Global, table: &Table) -> Result<LineList, PolicyFault>
     )?;
     match find(table, TopKey::Line.as_str()) {
         None => Ok(LineList::new(alloc)),
-        Some(Value::Array(values)) => read_lines(alloc, values.as_slice()),
+        Some(Value::Array(values)) => read_values(alloc, values.as_slice()),
         Some(_) => Err(PolicyFault::Top {
             key: TopKey::Line,
             why: Why::WrongKind,
@@ -81,20 +82,21 @@ fn read_format(value: Option<&Value>) -> Result<(), Why>
 }
 
 // The lines that some values are, no two of one name.
-fn read_lines(alloc: Global, values: &[Value]) -> Result<LineList, PolicyFault>
-    ensures lines { IfOk result (λ lines. lines_of (values_of (items_view values.now)) ≡ Ok lines) }
+fn read_values(alloc: Global, values: &[Value]) -> Result<LineList, PolicyFault>
+    ensures lines { IfOk result (λ lines.
+        policy_lines (array_values (items_view values.now)) ≡ Ok lines) }
     ensures fault { IfErr result (λ fault. fault ≢ PolicyFault.NoMemory
-        → lines_of (values_of (items_view values.now)) ≡ Err fault) }
+        → policy_lines (array_values (items_view values.now)) ≡ Err fault) }
     ensures policy { IfOk result IsPolicy }
 {
-    if values.len() > MOST_LINES {
+    if values.len() > MOST_LINES as usize {
         return Err(PolicyFault::TooManyLines);
     }
     read_each(alloc, values)
 }
 
 fn read_each(alloc: Global, values: &[Value]) -> Result<LineList, PolicyFault>
-    requires { length values.now ≤ MOST_LINES }
+    requires { length values.now ≤ most_lines }
     ensures lines { IfOk result (λ lines. lines_behind [] (map view values.now) ≡ Ok lines) }
     ensures fault { IfErr result (λ fault. fault ≢ PolicyFault.NoMemory
         → lines_behind [] (map view values.now) ≡ Err fault) }

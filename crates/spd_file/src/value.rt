@@ -2,13 +2,13 @@ ghost use Rattle.std.specs.Prelude.{◌≡◌, Option, Result};
 ghost use Rattle.toml.specs.Data.{Data};
 ghost use Rattle.toml.specs.View.{view};
 ghost use Rattle.spd_file.specs.declared.why.Why.{Why};
-ghost use Rattle.spd_file.specs.Lent.{data_now, text_now};
-ghost use Rattle.spd_file.specs.Values.{required, text_of};
+ghost use Rattle.spd_file.specs.inner.Borrowed.{data_now, text_now};
+ghost use Rattle.spd_file.specs.Values.{required, as_text};
 ghost use Rattle.spd_file.specs.Words.{protocol_number_of, protocol_word_of};
 
 use crate::Why;
 use sel_text::{Address, Name};
-use spd_line::ProtocolItem;
+use spd_line::{FINAL, ProtocolItem};
 use toml::Value;
 
 // What a key of a line says by a single value.
@@ -21,28 +21,28 @@ pub trait KeyValue: Copy {
 }
 
 pub fn read_text(value: &Value) -> Result<&str, Why>
-    ensures { text_now result ≡ text_of (view value.now) }
+    ensures { text_now result ≡ as_text (view value.now) }
 {
     value.as_str().ok_or(Why::WrongKind)
 }
 
 // The text at a key that must stand.
 pub fn require_text(value: Option<&Value>) -> Result<&str, Why>
-    ensures { text_now result ≡ required text_of (data_now value.entry) }
+    ensures { text_now result ≡ required as_text (data_now value.entry) }
 {
     read_text(value.ok_or(Why::Missing)?)
 }
 
 // The name of a line, but not that of the line behind all lines.
 impl KeyValue for Name {
-    ghost use Rattle.spd_file.specs.Values.{required, worded};
-    ghost use Rattle.spd_file.specs.Words.{name_of};
+    ghost use Rattle.spd_file.specs.Values.{required, of_text};
+    ghost use Rattle.spd_file.specs.Words.{line_name_of};
 
-    ghost meaning = { required (worded name_of) };
+    ghost meaning = { required (of_text line_name_of) };
 
     fn read(value: Option<&Value>) -> Result<Name, Why> {
         let name = sel_text::read_name(require_text(value)?.as_bytes())?;
-        if name.as_bytes() == b"final".as_slice() {
+        if name.as_bytes() == FINAL {
             return Err(Why::Reserved);
         }
         Ok(name)
@@ -52,9 +52,9 @@ impl KeyValue for Name {
 // The address of a gate.
 impl KeyValue for Address {
     ghost use Rattle.sel_text.specs.Address.{address_meaning};
-    ghost use Rattle.spd_file.specs.Values.{by_text, required};
+    ghost use Rattle.spd_file.specs.Values.{text_by_grammar, required};
 
-    ghost meaning = { required (by_text address_meaning) };
+    ghost meaning = { required (text_by_grammar address_meaning) };
 
     fn read(value: Option<&Value>) -> Result<Address, Why> {
         let gate = sel_text::read_address(require_text(value)?.as_bytes())?;
@@ -66,9 +66,9 @@ impl KeyValue for Address {
 impl KeyValue for ProtocolItem {
     ghost use Rattle.spd_line.specs.declared.line.ProtocolItem.TheVariants.{Any};
     ghost use Rattle.spd_file.specs.Values.{optional};
-    ghost use Rattle.spd_file.specs.Words.{protocol_of};
+    ghost use Rattle.spd_file.specs.Words.{protocol_item};
 
-    ghost meaning = { optional Any protocol_of };
+    ghost meaning = { optional Any protocol_item };
 
     fn read(value: Option<&Value>) -> Result<ProtocolItem, Why> {
         match value {

@@ -1,4 +1,4 @@
-ghost use Rattle.std.specs.Prelude.{◌≡◌, ◌≤◌, length};
+ghost use Rattle.std.specs.Prelude.{◌≡◌};
 ghost use Rattle.spd_file.specs.Why.{why_text};
 
 use sel_text::TextFault;
@@ -40,8 +40,7 @@ impl From<TextFault> for Why {
 impl Why {
     /// What is printed of it.
     pub fn as_str(self) -> &'static str
-        ensures text { result.now ≡ why_text self }
-        ensures short { length result.now ≤ 14 }
+        ensures { result.now ≡ why_text self }
     {
         match self {
             Why::NotHere => "not here",

@@ -12,10 +12,10 @@ pub enum ActionWord {
 }
 
 impl KeyValue for ActionWord {
-    ghost use Rattle.spd_file.specs.Values.{required, worded};
+    ghost use Rattle.spd_file.specs.Values.{required, of_text};
     ghost use Rattle.spd_file.specs.Words.{action_word_of};
 
-    ghost meaning = { required (worded action_word_of) };
+    ghost meaning = { required (of_text action_word_of) };
 
     fn read(value: Option<&Value>) -> Result<ActionWord, Why> {
         match require_text(value)? {
@@ -30,10 +30,10 @@ impl KeyValue for ActionWord {
 // The directions of a line, both where the key doesn't stand.
 impl KeyValue for Way {
     ghost use Rattle.spd_line.specs.declared.line.Way.TheVariants.{Both};
-    ghost use Rattle.spd_file.specs.Values.{optional, worded};
+    ghost use Rattle.spd_file.specs.Values.{optional, of_text};
     ghost use Rattle.spd_file.specs.Words.{way_of};
 
-    ghost meaning = { optional Both (worded way_of) };
+    ghost meaning = { optional Both (of_text way_of) };
 
     fn read(value: Option<&Value>) -> Result<Way, Why> {
         let Some(value) = value else {
@@ -49,10 +49,10 @@ impl KeyValue for Way {
 }
 
 impl KeyValue for Ipsec {
-    ghost use Rattle.spd_file.specs.Values.{required, worded};
+    ghost use Rattle.spd_file.specs.Values.{required, of_text};
     ghost use Rattle.spd_file.specs.Words.{ipsec_of};
 
-    ghost meaning = { required (worded ipsec_of) };
+    ghost meaning = { required (of_text ipsec_of) };
 
     fn read(value: Option<&Value>) -> Result<Ipsec, Why> {
         match require_text(value)? {
@@ -71,10 +71,10 @@ pub enum ModeWord {
 }
 
 impl KeyValue for ModeWord {
-    ghost use Rattle.spd_file.specs.Values.{required, worded};
+    ghost use Rattle.spd_file.specs.Values.{required, of_text};
     ghost use Rattle.spd_file.specs.Words.{mode_word_of};
 
-    ghost meaning = { required (worded mode_word_of) };
+    ghost meaning = { required (of_text mode_word_of) };
 
     fn read(value: Option<&Value>) -> Result<ModeWord, Why> {
         match require_text(value)? {

@@ -1,4 +1,4 @@
--- What lent values and texts say, for the contracts of the readers' parts. No public clause cites these.
+-- The values and texts behind references.
 use Rattle.std.specs.Prelude.{ℕ, List, Option, option_map, Result, Ok, Err}
 use Rattle.std.specs.Borrow.{Bor}
 use Rattle.toml.specs.Data.{Data}
