@@ -1,5 +1,6 @@
 -- Edits of the table are those edits of the lines, and keep each line under its name.
-use Rattle.std.proofs.Common.{◌≡◌, ℕ, suc, ◌+◌, ◌-◌, ◌<◌, ◌≤◌, Bool, true, false, ◌||◌, List, [], ◌∷◌, ◌++◌, length, get_or, map, take, drop, Option, Some, None, is_some, codes, refl, sym, ◌∙◌, ap, ⊎_elim, arith}
+use Rattle.std.proofs.Common.{◌≡◌, ℕ, suc, ◌+◌, ◌-◌, ◌<◌, ◌≤◌, Bool, true, false, ◌||◌, List, [], ◌∷◌, ◌++◌, length, get_or, map, take, drop, Option, Some}
+use Rattle.std.proofs.Common.{None, is_some, refl, sym, ◌∙◌, ap, ⊎_elim, arith}
 use Rattle.std.specs.Prelude.{insert, remove, slice_get, option_map, position}
 use Rattle.std.specs.List.{list_any, position_or_len}
 use Rattle.std.specs.Map.{keys_of, lookup, values_of}
@@ -13,9 +14,10 @@ use Rattle.std.proofs.lemmas.Option.{slice_get-map, slice_get_cases}
 use Rattle.indexmap.proofs.CallerLemmas.{insert_entry-new}
 use Rattle.indexmap.specs.IndexMap.{get, index_of_by, insert_entry, insert_index, move_index, IndexMap}
 use Rattle.spd_line.specs.declared.line.LineParts.{LineParts}
+use Rattle.spd_line.specs.Policy.{final_name, most_lines, names}
 use Rattle.spd_order.specs.Edits.{is_place, moved_item}
-use Rattle.spd_order.specs.Kept.{Keeps}
-use Rattle.spd_order.specs.Names.{index_in, is_taken, names}
+use Rattle.spd_order.specs.inner.Kept.{HoldsPolicy}
+use Rattle.spd_order.specs.Names.{index_in, is_taken}
 use Rattle.spd_order.proofs.Edited.{place_within, MayInsert}
 use Rattle.spd_order.proofs.Policies.{policy-insert, policy-moved, policy-remove}
 
@@ -49,7 +51,8 @@ value_at es index e at = slice_get_values es index ∙ ap (option_map value) at
 own_at : (es : List Entry) (index : ℕ) (e : Entry) → keys_of es ≡ names (values_of es) → slice_get es index ≡ Some e → e.0 ≡ e.1.name
 own_at es index e own at =
     let kept : slice_get (keys_of es) index ≡ Some e.0 = slice_get-map key es index ∙ ap (option_map key) at in
-    let lined : slice_get (names (values_of es)) index ≡ Some e.1.name = slice_get-map name (values_of es) index ∙ ap (option_map name) (value_at es index e at) in
+    let lined : slice_get (names (values_of es)) index ≡ Some e.1.name = slice_get-map name (values_of es) index
+    ∙ ap (option_map name) (value_at es index e at) in
     let same : slice_get (keys_of es) index ≡ slice_get (names (values_of es)) index = ap (λ (ks : List (List ℕ)). slice_get ks index) own in
     cc
 
@@ -75,7 +78,8 @@ names-remove lines index = map-remove name lines index
 length-values : (es : List Entry) → length (values_of es) ≡ length es
 length-values es = length-map es value
 
-own-insert : (es : List Entry) (index : ℕ) (e : Entry) → e.0 ≡ e.1.name → keys_of es ≡ names (values_of es) → keys_of (insert es index e) ≡ names (values_of (insert es index e))
+own-insert : (es : List Entry) (index : ℕ) (e : Entry) → e.0 ≡ e.1.name → keys_of es ≡ names (values_of es)
+    → keys_of (insert es index e) ≡ names (values_of (insert es index e))
 own-insert es index e self own =
     rw (keys-insert es index e, values-insert es index e, names-insert (values_of es) index e.1, own, self) refl
 
@@ -83,7 +87,8 @@ own-remove : (es : List Entry) (index : ℕ) → keys_of es ≡ names (values_of
 own-remove es index own =
     rw (keys-remove es index, values-remove es index, names-remove (values_of es) index, own) refl
 
-pub keeps-insert : (es : List Entry) (index : ℕ) (line : LineParts) → index ≤ length es → length es < 4096 → is_taken line.name (values_of es) ≡ false → Keeps es → Keeps (insert es index (line.name, line))
+pub keeps-insert : (es : List Entry) (index : ℕ) (line : LineParts) → index ≤ length es → length es < most_lines → is_taken line.name (values_of es) ≡ false
+    → HoldsPolicy es → HoldsPolicy (insert es index (line.name, line))
 keeps-insert es index line within few free keeps =
     let many : length (values_of es) ≡ length es = length-values es in
     record {
@@ -91,26 +96,30 @@ keeps-insert es index line within few free keeps =
       policy = rw (values-insert es index (line.name, line)) (policy-insert (values_of es) index line (omega arith) (omega arith) free keeps.policy);
     }
 
-pub keeps-remove : (es : List Entry) (index : ℕ) (line : LineParts) → slice_get (values_of es) index ≡ Some line → Keeps es → Keeps (remove es index)
+pub keeps-remove : (es : List Entry) (index : ℕ) (line : LineParts) → slice_get (values_of es) index ≡ Some line → HoldsPolicy es
+    → HoldsPolicy (remove es index)
 keeps-remove es index line at keeps = record {
   own = own-remove es index keeps.own;
   policy = rw (values-remove es index) (policy-remove (values_of es) index line at keeps.policy);
 }
 
-pub keeps-moved : (es : List Entry) (from to : ℕ) (e : Entry) → slice_get es from ≡ Some e → to < length es → Keeps es → Keeps (insert (remove es from) to e)
+pub keeps-moved : (es : List Entry) (from to : ℕ) (e : Entry) → slice_get es from ≡ Some e → to < length es → HoldsPolicy es
+    → HoldsPolicy (insert (remove es from) to e)
 keeps-moved es from to e at there keeps =
     let many : length (values_of es) ≡ length es = length-values es in
     record {
       own = own-insert (remove es from) to e (own_at es from e keeps.own at) (own-remove es from keeps.own);
-      policy = rw (values-insert (remove es from) to e, values-remove es from) (policy-moved (values_of es) from to e.1 (value_at es from e at) (omega arith) keeps.policy);
+      policy = rw (values-insert (remove es from) to e, values-remove es from)
+          (policy-moved (values_of es) from to e.1 (value_at es from e at) (omega arith) keeps.policy);
     }
 
 -- A name is taken where the table has it, or where it is `final`.
-pub taken_by_table : (es : List Entry) (name : List ℕ) → keys_of es ≡ names (values_of es) → is_taken name (values_of es) ≡ (is_some (lookup (bytes_eq name) es) || bytes_eq name (codes "final"))
+pub taken_by_table : (es : List Entry) (name : List ℕ) → keys_of es ≡ names (values_of es)
+    → is_taken name (values_of es) ≡ (is_some (lookup (bytes_eq name) es) || bytes_eq name final_name)
 taken_by_table es name own =
-    list_any-append (bytes_eq name) (names (values_of es)) (codes "final" ∷ [])
-    ∙ ap (λ (had : Bool). had || (bytes_eq name (codes "final") || false)) (ap (list_any (bytes_eq name)) (sym own) ∙ sym (is_some-lookup (bytes_eq name) es))
-    ∙ ap (λ (last : Bool). is_some (lookup (bytes_eq name) es) || last) (or-false (bytes_eq name (codes "final")))
+    list_any-append (bytes_eq name) (names (values_of es)) (final_name ∷ [])
+    ∙ ap (λ (had : Bool). had || (bytes_eq name final_name || false)) (ap (list_any (bytes_eq name)) (sym own) ∙ sym (is_some-lookup (bytes_eq name) es))
+    ∙ ap (λ (last : Bool). is_some (lookup (bytes_eq name) es) || last) (or-false (bytes_eq name final_name))
 
 none_of : {A : Type 0} (found : Option A) → is_some found ≡ false → found ≡ None
 none_of None none = refl
@@ -119,7 +128,8 @@ none_of (Some x) none = cc
 -- So the table lacks a name that isn't taken.
 pub absent : (es : List Entry) (name : List ℕ) → keys_of es ≡ names (values_of es) → is_taken name (values_of es) ≡ false → lookup (bytes_eq name) es ≡ None
 absent es name own free =
-    none_of (lookup (bytes_eq name) es) (or_parts (is_some (lookup (bytes_eq name) es)) (bytes_eq name (codes "final")) (sym (taken_by_table es name own) ∙ free)).0
+    none_of (lookup (bytes_eq name) es) (or_parts (is_some (lookup (bytes_eq name) es)) (bytes_eq name final_name)
+    (sym (taken_by_table es name own) ∙ free)).0
 
 where_absent : (test : List ℕ → Bool) (ks : List (List ℕ)) → list_any test ks ≡ false → position_or_len test ks ≡ length ks
 where_absent test [] none = refl
@@ -149,35 +159,39 @@ put_new m index line gone =
     rw (insert_entry-new bytes_eq m line.name line gone, end) (moved_from_end es index (line.name, line))
 
 -- Where the table finds a name, its line stands in the list.
-pub found_in_table : {S : Type 0} (m : IndexMap (List ℕ) LineParts S) (name : List ℕ) (index : ℕ) (lines : List LineParts) → values_of m.entries ≡ lines → keys_of m.entries ≡ names (values_of m.entries) → Some index ≡ index_of_by (bytes_eq name) m → index_in name lines ≡ Some index
+pub found_in_table : {S : Type 0} (m : IndexMap (List ℕ) LineParts S) (name : List ℕ) (index : ℕ) (lines : List LineParts) → values_of m.entries ≡ lines
+    → keys_of m.entries ≡ names (values_of m.entries) → Some index ≡ index_of_by (bytes_eq name) m → index_in name lines ≡ Some index
 found_in_table m name index lines are own found =
     ap (λ (ls : List LineParts). index_in name ls) (sym are) ∙ ap (position (bytes_eq name)) (sym own) ∙ sym found
 
 -- The entries are a table of these lines.
 pub record IsTableOf (lines : List LineParts) (es : List Entry) : Type 0 where
-  pub keeps : Keeps es
+  pub keeps : HoldsPolicy es
   pub lines_are : values_of es ≡ lines
 
 -- The table after a line is put in, is taken out, is moved.
-pub put_in : (old es : List Entry) (place : ℕ) (line : LineParts) (lines : List LineParts) → values_of old ≡ lines → Keeps old → MayInsert place line lines
+pub put_in : (old es : List Entry) (place : ℕ) (line : LineParts) (lines : List LineParts) → values_of old ≡ lines → HoldsPolicy old
+    → MayInsert place line lines
     → es ≡ insert old (place - 1) (line.name, line) → IsTableOf (insert lines (place - 1) line) es
 put_in old es place line lines are keeps may put =
     let many : length (values_of old) ≡ length old = length-values old in
     let same : length (values_of old) ≡ length lines = ap length are in
-    let few : length lines < 4096 = may.few in
+    let few : length lines < most_lines = may.few in
     let last : place ≤ length lines + 1 = may.last in
     record {
       keeps = rw put (keeps-insert old (place - 1) line (omega arith) (omega arith) (rw are may.free) keeps);
       lines_are = rw (put, values-insert old (place - 1) (line.name, line), are) refl;
     }
 
-pub taken_out : (old es : List Entry) (index : ℕ) (line : LineParts) (lines : List LineParts) → values_of old ≡ lines → Keeps old → slice_get (values_of old) index ≡ Some line → es ≡ remove old index → IsTableOf (remove lines index) es
+pub taken_out : (old es : List Entry) (index : ℕ) (line : LineParts) (lines : List LineParts) → values_of old ≡ lines → HoldsPolicy old
+    → slice_get (values_of old) index ≡ Some line → es ≡ remove old index → IsTableOf (remove lines index) es
 taken_out old es index line lines are keeps at out = record {
   keeps = rw out (keeps-remove old index line at keeps);
   lines_are = rw (out, values-remove old index, are) refl;
 }
 
-pub moved_to : (old es : List Entry) (from place : ℕ) (lines : List LineParts) → values_of old ≡ lines → Keeps old → from < length old → is_place place (length lines) ≡ true → es ≡ moved_item from (place - 1) old → IsTableOf (moved_item from (place - 1) lines) es
+pub moved_to : (old es : List Entry) (from place : ℕ) (lines : List LineParts) → values_of old ≡ lines → HoldsPolicy old → from < length old
+    → is_place place (length lines) ≡ true → es ≡ moved_item from (place - 1) old → IsTableOf (moved_item from (place - 1) lines) es
 moved_to old es from place lines are keeps within fits moved =
     ⊎_elim there (λ past. absurd (omega arith)) (slice_get_cases old from).1
   where

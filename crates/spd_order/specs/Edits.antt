@@ -1,15 +1,17 @@
 -- Edits of an ordered policy, which is a list of lines whose places count from 1 (RFC 4301 section 4.4.1).
-use Rattle.std.specs.Prelude.{ℕ, ◌+◌, ◌-◌, Bool, ◌&&◌, nat_le, nat_lt, List, length, insert, remove, slice_get, Option, Some, None, Result, Ok, Err, if◌then◌else◌}
+use Rattle.std.specs.Prelude.{ℕ, ◌+◌, ◌-◌, Bool, ◌&&◌, nat_le, nat_lt, List, length, insert, remove, slice_get, Option, Some, None, Result, Ok, Err}
+use Rattle.std.specs.Prelude.{if◌then◌else◌}
 use Rattle.std.specs.Option.{option_map_or}
 use Rattle.spd_line.specs.declared.line.LineParts.{LineParts}
+use Rattle.spd_line.specs.Policy.{all_names, most_lines}
 use Rattle.spd_order.specs.declared.fault.OrderFault.{OrderFault}
-use Rattle.spd_order.specs.Names.{all_names, index_in, is_taken, repeats}
+use Rattle.spd_order.specs.Names.{has_repeats, index_in, is_taken}
 
 -- Why some lines make no policy: there are too many, or a name stands twice.
 abbrev pub policy_fault : List LineParts → Option OrderFault
 policy_fault lines =
-    if nat_lt 4096 (length lines) then Some OrderFault.TooManyLines
-    else if repeats (all_names lines) then Some OrderFault.NameTaken
+    if nat_lt most_lines (length lines) then Some OrderFault.TooManyLines
+    else if has_repeats (all_names lines) then Some OrderFault.NameTaken
     else None
 
 -- The place is one from 1 to the last.
@@ -19,7 +21,7 @@ is_place place last = nat_le 1 place && nat_le place last
 -- The lines with a further one at the place, or why it can't stand there.
 abbrev pub inserted : ℕ → LineParts → List LineParts → Result (List LineParts) OrderFault
 inserted place line lines =
-    if nat_le 4096 (length lines) then Err OrderFault.TooManyLines
+    if nat_le most_lines (length lines) then Err OrderFault.TooManyLines
     else if is_taken line.name lines then Err OrderFault.NameTaken
     else if is_place place (length lines + 1) then Ok (insert lines (place - 1) line)
     else Err OrderFault.BadPlace

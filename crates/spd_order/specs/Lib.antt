@@ -1,4 +1,4 @@
 pub mod Edits
 pub mod Fault
-pub mod Kept
 pub mod Names
+pub mod inner

@@ -20,9 +20,9 @@ pub enum OrderFault {
 
 impl fmt::Display for OrderFault {
     ghost use Rattle.std.specs.Prelude.{Some};
-    ghost use Rattle.spd_order.specs.Fault.{fault_text};
+    ghost use Rattle.spd_order.specs.Fault.{order_fault_text};
 
-    ghost output = { λ fault. Some (fault_text fault) };
+    ghost output = { λ fault. Some (order_fault_text fault) };
 
     fn fmt<W: fmt::Write>(&self, f: &mut fmt::Formatter<W>) -> fmt::Result {
         f.write_str(match self {

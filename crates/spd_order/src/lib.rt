@@ -5,6 +5,7 @@ pub use fault::{InsertRefused, OrderFault};
 pub use spd::Spd;
 
 mod fault;
+pub mod laws;
 mod spd;
 mod table;
 #[cfg(test)]

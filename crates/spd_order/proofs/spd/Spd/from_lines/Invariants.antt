@@ -1,5 +1,5 @@
 use Rattle.std.proofs.Common.{◌≡◌, length, take}
-use Rattle.spd_order.specs.Names.{IsPolicy}
+use Rattle.spd_line.specs.Policy.{IsPolicy}
 use Rattle.spd_order.proofs.spd.Spd.from_lines.Given as goal
 
 abbrev pub invariant-loop-line : goal.invariant-loop-line

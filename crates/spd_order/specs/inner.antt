@@ -1,0 +1,2 @@
+-- What a policy keeps inside. No public clause cites this.
+pub mod Kept
