@@ -1,6 +1,5 @@
 pub mod Blamed
 pub mod Feeds
-pub mod Fronts
-pub mod Packets
+pub mod Tables
 pub mod Wholes
 pub mod Wording

@@ -1,28 +1,17 @@
--- The lines of a trace make it up, and so do the words of a line, but for its spaces.
+-- The words of a line make it up, but for its spaces.
 use Rattle.std.proofs.Common.{◌≡◌, ℕ, List, [], ◌∷◌, ◌++◌, Bool, true, false, not, nat_eq, length, refl, ap, ◌∙◌, arith}
 use Rattle.std.specs.Prelude.{filter}
-use Rattle.std.specs.List.{concat, onto_first, slice_split}
+use Rattle.std.specs.List.{concat, slice_split}
 use Rattle.std.proofs.lemmas.Bool.Decides.{nat_tests}
-use Rattle.trace_text.specs.Lines.{lines_of}
+use Rattle.sel_text.proofs.Lines.{concat-onto_first}
 use Rattle.trace_text.specs.Words.{is_space, is_word, words_of}
-
-concat-onto_first : (byte : ℕ) (parts : List (List ℕ)) → concat (onto_first byte parts) ≡ byte ∷ concat parts
-concat-onto_first byte [] = refl
-concat-onto_first byte (part ∷ parts) = refl
-
-lines_by : (byte : ℕ) (bytes : List ℕ) (test : Bool) → nat_eq byte 10 ≡ test → concat (lines_of bytes) ≡ bytes → concat (lines_of (byte ∷ bytes)) ≡ byte ∷ bytes
-lines_by byte bytes true is more = rw (is, more) refl
-lines_by byte bytes false is more = rw is (concat-onto_first byte (lines_of bytes) ∙ ap (λ rest. byte ∷ rest) more)
-
-pub concat-lines_of : (trace : List ℕ) → concat (lines_of trace) ≡ trace
-concat-lines_of [] = refl
-concat-lines_of (byte ∷ bytes) = lines_by byte bytes (nat_eq byte 10) refl (concat-lines_of bytes)
 
 -- A text without its spaces.
 abbrev spaceless : List ℕ → List ℕ
 spaceless text = filter (λ byte. not (is_space byte)) text
 
-pieces_by : (byte : ℕ) (bytes : List ℕ) (test : Bool) → is_space byte ≡ test → concat (slice_split is_space bytes) ≡ spaceless bytes → concat (slice_split is_space (byte ∷ bytes)) ≡ spaceless (byte ∷ bytes)
+pieces_by : (byte : ℕ) (bytes : List ℕ) (test : Bool) → is_space byte ≡ test → concat (slice_split is_space bytes) ≡ spaceless bytes
+    → concat (slice_split is_space (byte ∷ bytes)) ≡ spaceless (byte ∷ bytes)
 pieces_by byte bytes true is more = rw is more
 pieces_by byte bytes false is more = rw is (concat-onto_first byte (slice_split is_space bytes) ∙ ap (λ rest. byte ∷ rest) more)
 

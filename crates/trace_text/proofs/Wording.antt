@@ -1,31 +1,31 @@
 -- How a text is cut into its words.
-use Rattle.std.proofs.Common.{◌≡◌, ℕ, suc, ◌+◌, ◌<◌, List, [], ◌∷◌, Bool, true, false, nat_eq, length, take, drop, refl, sym, ap, ◌∙◌, ◌⊎◌, inl, inr, arith}
+use Rattle.std.proofs.Common.{◌≡◌, ℕ, ◌<◌, List, [], ◌∷◌, Bool, true, false, nat_eq, length, take, drop, refl, sym, ap, ◌∙◌, ◌⊎◌, inl, inr, one-add}
+use Rattle.std.proofs.Common.{arith}
 use Rattle.std.specs.Prelude.{filter}
 use Rattle.std.specs.List.{slice_split}
 use Rattle.std.proofs.lemmas.List.{length-take}
 use Rattle.std.proofs.lemmas.Bool.Decides.{nat_tests}
-use Rattle.trace_text.specs.Reading.{BeginsWord, word_len}
+use Rattle.trace_text.specs.inner.Reading.{BeginsWord, word_len}
 use Rattle.trace_text.specs.Words.{is_space, is_word, words_of, without_first_spaces}
-use Rattle.trace_text.proofs.Fronts.{position_or_len-le-length}
+use Rattle.sel_text.proofs.FirstPlaces.{position_or_len-le-length}
 
-one_more : (n : ℕ) → 1 + n ≡ suc n
-one_more n = omega arith
-
-begun-byte : (byte : ℕ) (bytes : List ℕ) (test : Bool) → is_space byte ≡ test → words_of (without_first_spaces bytes) ≡ words_of bytes → words_of (without_first_spaces (byte ∷ bytes)) ≡ words_of (byte ∷ bytes)
-begun-byte byte bytes true is more = rw (is, one_more) more
+begun-byte : (byte : ℕ) (bytes : List ℕ) (test : Bool) → is_space byte ≡ test → words_of (without_first_spaces bytes) ≡ words_of bytes
+    → words_of (without_first_spaces (byte ∷ bytes)) ≡ words_of (byte ∷ bytes)
+begun-byte byte bytes true is more = rw (is, one-add) more
 begun-byte byte bytes false is more = rw (is, is) refl
 
--- Spaces in front of a text are of no word.
+-- Spaces before a text are of no word.
 pub words_of-begun : (text : List ℕ) → words_of (without_first_spaces text) ≡ words_of text
 words_of-begun [] = refl
 words_of-begun (byte ∷ bytes) = begun-byte byte bytes (is_space byte) refl (words_of-begun bytes)
 
 -- No word is left, or the first one begins here.
-abbrev IsBegun : List ℕ → Type 0
+abbrev pub IsBegun : List ℕ → Type 0
 IsBegun begun = (begun ≡ []) ⊎ (0 < word_len begun)
 
-begun_by : (byte : ℕ) (bytes : List ℕ) (test : Bool) → is_space byte ≡ test → IsBegun (without_first_spaces bytes) → IsBegun (without_first_spaces (byte ∷ bytes))
-begun_by byte bytes true is more = rw (is, one_more) more
+begun_by : (byte : ℕ) (bytes : List ℕ) (test : Bool) → is_space byte ≡ test → IsBegun (without_first_spaces bytes)
+    → IsBegun (without_first_spaces (byte ∷ bytes))
+begun_by byte bytes true is more = rw (is, one-add) more
 begun_by byte bytes false is more = rw (is, is) (inr (omega arith))
 
 pub is_begun : (text : List ℕ) → IsBegun (without_first_spaces text)
@@ -33,21 +33,25 @@ is_begun [] = inl refl
 is_begun (byte ∷ bytes) = begun_by byte bytes (is_space byte) refl (is_begun bytes)
 
 -- The pieces behind the space that ends the first piece.
-abbrev pieces_behind : List ℕ → List (List ℕ)
+abbrev pub pieces_behind : List ℕ → List (List ℕ)
 pieces_behind [] = []
 pieces_behind (space ∷ bytes) = slice_split is_space bytes
 
-first_by : (byte : ℕ) (bytes : List ℕ) (test : Bool) → is_space byte ≡ test → slice_split is_space bytes ≡ take (word_len bytes) bytes ∷ pieces_behind (drop (word_len bytes) bytes) → slice_split is_space (byte ∷ bytes) ≡ take (word_len (byte ∷ bytes)) (byte ∷ bytes) ∷ pieces_behind (drop (word_len (byte ∷ bytes)) (byte ∷ bytes))
+first_by : (byte : ℕ) (bytes : List ℕ) (test : Bool) → is_space byte ≡ test
+    → slice_split is_space bytes ≡ take (word_len bytes) bytes ∷ pieces_behind (drop (word_len bytes) bytes)
+    → slice_split is_space (byte ∷ bytes) ≡ take (word_len (byte ∷ bytes)) (byte ∷ bytes) ∷ pieces_behind (drop (word_len (byte ∷ bytes)) (byte ∷ bytes))
 first_by byte bytes true is more = rw is refl
-first_by byte bytes false is more = rw (is, one_more) (rw more refl)
+first_by byte bytes false is more = rw (is, one-add) (rw more refl)
 
-pieces-first : (text : List ℕ) → slice_split is_space text ≡ take (word_len text) text ∷ pieces_behind (drop (word_len text) text)
+pub pieces-first : (text : List ℕ) → slice_split is_space text ≡ take (word_len text) text ∷ pieces_behind (drop (word_len text) text)
 pieces-first [] = refl
 pieces-first (byte ∷ bytes) = first_by byte bytes (is_space byte) refl (pieces-first bytes)
 
-behind_by : (byte : ℕ) (bytes : List ℕ) (test : Bool) → is_space byte ≡ test → words_of (drop (word_len bytes) bytes) ≡ filter is_word (pieces_behind (drop (word_len bytes) bytes)) → words_of (drop (word_len (byte ∷ bytes)) (byte ∷ bytes)) ≡ filter is_word (pieces_behind (drop (word_len (byte ∷ bytes)) (byte ∷ bytes)))
+behind_by : (byte : ℕ) (bytes : List ℕ) (test : Bool) → is_space byte ≡ test
+    → words_of (drop (word_len bytes) bytes) ≡ filter is_word (pieces_behind (drop (word_len bytes) bytes))
+    → words_of (drop (word_len (byte ∷ bytes)) (byte ∷ bytes)) ≡ filter is_word (pieces_behind (drop (word_len (byte ∷ bytes)) (byte ∷ bytes)))
 behind_by byte bytes true is more = rw (is, is) refl
-behind_by byte bytes false is more = rw (is, one_more) more
+behind_by byte bytes false is more = rw (is, one-add) more
 
 words-behind : (text : List ℕ) → words_of (drop (word_len text) text) ≡ filter is_word (pieces_behind (drop (word_len text) text))
 words-behind [] = refl

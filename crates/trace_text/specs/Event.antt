@@ -1,7 +1,7 @@
 -- What a trace line asks for.
-use Rattle.std.specs.Prelude.{ℕ, ◌≤◌, List, IsTrue}
+use Rattle.std.specs.Prelude.{ℕ, ◌≤◌, List}
 use Rattle.sel_box.specs.declared.packet.Direction.{Direction}
-use Rattle.sel_box.specs.Packet.{PacketFields, is_packet}
+use Rattle.sel_box.specs.Packet.{PacketFields}
 use Rattle.trace_text.specs.declared.event.Event.{Event}
 
 -- An event: a packet judged at once, the three steps of a lane, and the three edits of a policy by
@@ -25,12 +25,9 @@ event_now (Event.Insert place table) = Insert place table.now
 event_now (Event.Delete name) = Delete name
 event_now (Event.Move name place) = Move name place
 
--- The lane is one of sixteen, and the packet is one that can be.
-abbrev pub IsEvent : Event → Type 0
-IsEvent (Event.Pkt direction packet) = IsTrue (is_packet packet)
-IsEvent (Event.Take lane direction packet) = (lane ≤ 15) × IsTrue (is_packet packet)
-IsEvent (Event.Search lane) = lane ≤ 15
-IsEvent (Event.Fill lane) = lane ≤ 15
-IsEvent (Event.Insert place table) = Unit {0}
-IsEvent (Event.Delete name) = Unit {0}
-IsEvent (Event.Move name place) = Unit {0}
+-- The lane, where there is one, is one of sixteen.
+abbrev pub HasLane : Event → Type 0
+HasLane (Event.Take lane direction packet) = lane ≤ 15
+HasLane (Event.Search lane) = lane ≤ 15
+HasLane (Event.Fill lane) = lane ≤ 15
+HasLane event = Unit {0}

@@ -1,5 +1,6 @@
 -- What a trace means: by the words of a line, by a line, and as a whole.
-use Rattle.std.specs.Prelude.{ℕ, ◌+◌, Bool, true, ◌==◌, List, [], ◌∷◌, map, length, slice_index, nat_le, Option, Some, None, ok_or, Result, Ok, Err, if◌then◌else◌}
+use Rattle.std.specs.Prelude.{ℕ, ◌+◌, Bool, true, ◌==◌, List, [], ◌∷◌, map, length, slice_index, nat_le, Option, Some, None, ok_or, Result, Ok, Err}
+use Rattle.std.specs.Prelude.{if◌then◌else◌}
 use Rattle.std.specs.Str.Lines.{strip_carriage_return}
 use Rattle.sel_box.specs.Packet.{PacketFields}
 use Rattle.trace_text.specs.declared.fault.EventFault.{EventFault}
@@ -7,8 +8,8 @@ use Rattle.trace_text.specs.declared.fault.EventFault.TheVariants.{LineTooLong, 
 use Rattle.trace_text.specs.declared.keyword.Keyword.{Keyword}
 use Rattle.trace_text.specs.declared.written.WrittenField.{WrittenField}
 use Rattle.trace_text.specs.Event.{TraceEvent, Pkt, Take, Search, Fill, Insert, Delete, Move}
-use Rattle.trace_text.specs.Fields.{keyword_of, direction_of, lane_of, place_of, name_of, address_of, protocol_of, field_of}
-use Rattle.trace_text.specs.Lines.{lines_of, before_feed}
+use Rattle.trace_text.specs.Fields.{keyword_of, direction_of, lane_of, place_of, name_of, address_word, protocol_of, field_of}
+use Rattle.sel_text.specs.Lines.{lines_of, before_feed}
 use Rattle.trace_text.specs.Words.{words_of, table_of}
 use Rattle.trace_text.specs.Written.{written_packet}
 
@@ -63,8 +64,8 @@ fields_in left =
 -- The packet of the last five words: its addresses, source first, its protocol and its fields.
 abbrev pub packet_in : WordsLeft → Result PacketFields EventFault
 packet_in left =
-    with_word address_of left (λ source left.
-    with_word address_of left (λ destination left.
+    with_word address_word left (λ source left.
+    with_word address_word left (λ destination left.
     with_word protocol_of left (λ protocol left.
     with_value (fields_in left) (λ fields.
     ok_or (written_packet record {
@@ -153,9 +154,9 @@ bytes_meaning bytes =
     else Err LineTooLong
 
 -- What a line means with its end.
-unfoldable pub line_meaning : List ℕ → Result (Option TraceEvent) EventFault
-line_meaning line = bytes_meaning (before_feed line)
+unfoldable pub trace_line_meaning : List ℕ → Result (Option TraceEvent) EventFault
+trace_line_meaning line = bytes_meaning (before_feed line)
 
 -- What a trace means: for each of its lines its event, nothing, or its fault.
 abbrev pub events_of : List ℕ → List (Result (Option TraceEvent) EventFault)
-events_of bytes = map line_meaning (lines_of bytes)
+events_of bytes = map trace_line_meaning (lines_of bytes)

@@ -1,3 +1,8 @@
+ghost use Rattle.std.specs.Prelude.{◌≡◌};
+ghost use Rattle.trace_text.specs.Fault.{event_fault_text};
+
+use arrayvec::ArrayString;
+use itoa::Buffer;
 use std::error::Error;
 use std::fmt;
 
@@ -14,18 +19,31 @@ pub enum EventFault {
     NotAPacket,
 }
 
+impl EventFault {
+    /// What is printed of the fault, kept in place.
+    pub fn text(self) -> ArrayString<19>
+        ensures { result.bytes ≡ event_fault_text self }
+    {
+        let mut text = ArrayString::new();
+        match self {
+            EventFault::LineTooLong => text.push_str("line too long"),
+            EventFault::BadWord { word } => {
+                text.push_str("bad word ");
+                text.push_str(Buffer::new().format(word));
+            }
+            EventFault::NotAPacket => text.push_str("not a packet"),
+        }
+        text
+    }
+}
+
 impl fmt::Display for EventFault {
     ghost use Rattle.std.specs.Prelude.{Some};
-    ghost use Rattle.trace_text.specs.Fault.{event_fault_text};
 
     ghost output = { λ fault. Some (event_fault_text fault) };
 
     fn fmt<W: fmt::Write>(&self, f: &mut fmt::Formatter<W>) -> fmt::Result {
-        match self {
-            EventFault::LineTooLong => f.write_str("line too long"),
-            EventFault::BadWord { word } => write!(f, "bad word {word}"),
-            EventFault::NotAPacket => f.write_str("not a packet"),
-        }
+        f.write_str(self.text().as_str())
     }
 }
 

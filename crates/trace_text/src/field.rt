@@ -1,20 +1,18 @@
-ghost use Rattle.std.specs.Prelude.{◌≡◌};
+ghost use Rattle.std.specs.Prelude.{◌≡◌, ◌≤◌, IfSome};
+ghost use Rattle.sel_box.specs.Class.{opaque_protocol};
 ghost use Rattle.trace_text.specs.Fields as field;
 
-use crate::parts::split_once;
 use crate::written::WrittenField;
-use sel_box::Direction;
+use sel_box::{Direction, OPAQUE_PROTOCOL};
+use sel_text::{read_byte, read_type_code, split_once};
 
-/// The word for a value that isn't available.
+// The word for a value that isn't available.
 const OPAQUE: &[u8] = b"opaque";
 
-/// The number that stands for an OPAQUE protocol.
-const OPAQUE_PROTOCOL: u16 = 256;
-
-/// The greatest number that a field can be.
+// The greatest number that a field can be.
 const LAST_FIELD: u32 = 65_535;
 
-pub(crate) fn read_direction(word: &[u8]) -> Option<Direction>
+pub fn read_direction(word: &[u8]) -> Option<Direction>
     ensures { result ≡ field.direction_of word.now }
 {
     if word == b"out".as_slice() {
@@ -26,54 +24,38 @@ pub(crate) fn read_direction(word: &[u8]) -> Option<Direction>
     }
 }
 
-/// A protocol is `opaque` or a number of one byte.
-pub(crate) fn read_protocol(word: &[u8]) -> Option<u16>
-    ensures { result ≡ field.protocol_of word.now }
+// A protocol is `opaque` or a number of one byte.
+pub fn read_protocol(word: &[u8]) -> Option<u16>
+    ensures meaning { result ≡ field.protocol_of word.now }
+    ensures within { IfSome result (λ protocol. protocol ≤ opaque_protocol) }
 {
     if word == OPAQUE {
-        Some(OPAQUE_PROTOCOL)
-    } else {
-        read_byte(word).map(u16::from)
+        return Some(OPAQUE_PROTOCOL);
     }
+    let protocol = read_byte(word, u8::MAX).ok()?;
+    Some(u16::from(protocol))
 }
 
-/// A field is `opaque`, a number, or a type and a code with `/` between them.
-pub(crate) fn read_field(word: &[u8]) -> Option<WrittenField>
+// A field is `opaque`, a number, or a type and a code with `/` between them.
+pub fn read_field(word: &[u8]) -> Option<WrittenField>
     ensures { result ≡ field.field_of word.now }
 {
     if word == OPAQUE {
         return Some(WrittenField::Opaque);
     }
     match split_once(word, b'/') {
-        Some((kind, code)) => read_type_code(kind, code),
+        Some((kind, code)) => {
+            let value = read_type_code(kind, code).ok()?;
+            Some(WrittenField::TypeCode(u32::from(value)))
+        }
         None => read_number(word, LAST_FIELD).map(WrittenField::Number),
     }
 }
 
-fn read_type_code(kind: &[u8], code: &[u8]) -> Option<WrittenField>
-    ensures { result ≡ field.type_code_of (kind.now, code.now) }
+// A number that is at most this.
+pub fn read_number(word: &[u8], most: u32) -> Option<u32>
+    ensures { result ≡ field.number_word most word.now }
 {
-    let kind = read_byte(kind)?;
-    let code = read_byte(code)?;
-    Some(WrittenField::TypeCode(256 * u32::from(kind) + u32::from(code)))
-}
-
-/// A number of one byte.
-fn read_byte(word: &[u8]) -> Option<u8>
-    ensures { result ≡ field.number_of 255 word.now }
-{
-    match sel_text::read_number(word, u128::from(u8::MAX)) {
-        Ok(number) => Some(number as u8),
-        Err(_) => None,
-    }
-}
-
-/// A number that is at most this.
-pub(crate) fn read_number(word: &[u8], most: u32) -> Option<u32>
-    ensures { result ≡ field.number_of most word.now }
-{
-    match sel_text::read_number(word, u128::from(most)) {
-        Ok(number) => Some(number as u32),
-        Err(_) => None,
-    }
+    let number = sel_text::read_number(word, u128::from(most)).ok()?;
+    Some(number as u32)
 }

@@ -1,9 +1,9 @@
 ghost use Rattle.std.specs.Prelude.{◌≡◌};
 ghost use Rattle.trace_text.specs.Fields.{keyword_of};
 
-/// What the first word of a line says, if the line is an event.
+// What the first word of a line says, if the line is an event.
 #[derive(Clone, Copy)]
-pub(crate) enum Keyword {
+pub enum Keyword {
     Pkt,
     Take,
     Search,
@@ -13,7 +13,7 @@ pub(crate) enum Keyword {
     Move,
 }
 
-pub(crate) fn read_keyword(word: &[u8]) -> Option<Keyword>
+pub fn read_keyword(word: &[u8]) -> Option<Keyword>
     ensures { result ≡ keyword_of word.now }
 {
     if word == b"pkt".as_slice() {

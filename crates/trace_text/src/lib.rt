@@ -11,8 +11,8 @@ mod field;
 mod keyword;
 pub mod laws;
 mod line;
-mod parts;
 mod reading;
+mod spaces;
 #[cfg(test)]
 mod tests;
 mod word;

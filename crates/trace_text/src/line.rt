@@ -1,14 +1,15 @@
-ghost use Rattle.std.specs.Prelude.{◌≡◌, ◌+◌, ◌<◌, ◌≤◌, ◌∷◌, length, take, drop, option_map, Ok, Err, IfOk, IfErr, IfSome, MatchOption};
-ghost use Rattle.trace_text.specs.Event.{IsEvent, event_now};
-ghost use Rattle.trace_text.specs.Lines.{lines_of, before_feed, behind_feed};
+ghost use Rattle.std.specs.Prelude.{◌≡◌, ◌+◌, ◌<◌, ◌≤◌, ◌∷◌, length, take, drop, option_map, Ok};
+ghost use Rattle.std.specs.Prelude.{Err, IfOk, IfErr, IfSome, MatchOption};
+ghost use Rattle.trace_text.specs.Event.{HasLane, event_now};
+ghost use Rattle.sel_text.specs.Lines.{lines_of, before_feed, behind_feed};
 ghost use Rattle.trace_text.specs.Trace.{bytes_meaning, events_of, made};
 
 use crate::event::{Event, Found};
 use crate::fault::EventFault;
-use crate::parts::place_of;
 use crate::reading::read_text;
+use sel_text::place_of;
 
-/// The most bytes of a line before its LF.
+// The most bytes of a line before its LF.
 const LONGEST_LINE: usize = 4096;
 
 /// Reads the first line of a trace that isn't empty: its event, or nothing where it is blank or a
@@ -28,7 +29,7 @@ pub fn next_event<'a>(bytes: &'a [u8]) -> Result<Found<'a>, EventFault>
     ensures fault { IfErr result (λ fault. events_of bytes.now
         ≡ Err fault ∷ events_of (behind_feed bytes.now)) }
     ensures taken { IfOk result (λ found. (0 < found.taken) × (found.taken ≤ length bytes.now)) }
-    ensures possible { IfOk result (λ found. IfSome found.event IsEvent) }
+    ensures lanes { IfOk result (λ found. IfSome found.event HasLane) }
 {
     let Some(line) = first_line(bytes) else {
         return Err(EventFault::LineTooLong);
@@ -40,7 +41,7 @@ pub fn next_event<'a>(bytes: &'a [u8]) -> Result<Found<'a>, EventFault>
     }
 }
 
-/// The first line without its LF, unless it is too long. No more is looked at than tells that.
+// The first line without its LF, unless it is too long. No more is looked at than tells that.
 fn first_line(bytes: &[u8]) -> Option<&[u8]>
     ensures line { IfSome result (λ line. line.now ≡ before_feed bytes.now) }
     ensures long { MatchOption result (4096 < length (before_feed bytes.now))
@@ -54,11 +55,11 @@ fn first_line(bytes: &[u8]) -> Option<&[u8]>
     }
 }
 
-/// Reads a line that isn't too long, without its LF.
+// Reads a line that isn't too long, without its LF.
 fn read_line(line: &[u8]) -> Result<Option<Event<'_>>, EventFault>
     requires { length line.now ≤ 4096 }
     ensures meaning { made (option_map event_now) result ≡ bytes_meaning line.now }
-    ensures possible { IfOk result (λ event. IfSome event IsEvent) }
+    ensures lanes { IfOk result (λ event. IfSome event HasLane) }
 {
     match line {
         [text @ .., b'\r'] => read_text(text),

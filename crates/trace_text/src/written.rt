@@ -1,84 +1,69 @@
-ghost use Rattle.std.specs.Prelude.{◌≡◌, IsTrue, IfSome};
-ghost use Rattle.sel_box.specs.Packet.{is_packet};
-ghost use Rattle.trace_text.specs.Written.{ends_of, field_value, shows_type_code, written_packet};
+ghost use Rattle.std.specs.Prelude.{◌≡◌, ◌≤◌};
+ghost use Rattle.sel_box.specs.Class.{opaque_protocol, shows_type_code};
+ghost use Rattle.trace_text.specs.Written.{field_value, written_packet};
 
-use sel_box::{Family, Packet};
+use sel_box::{FieldForm, OPAQUE_FIELD, Packet, form_of};
 use sel_text::Address;
 
-/// A field as a trace line writes it.
+// A field as a trace line writes it.
 #[derive(Clone, Copy, Debug, PartialEq, Eq)]
-pub(crate) enum WrittenField {
+pub enum WrittenField {
     Opaque,
     Number(u32),
-    /// 256 times the type, and the code.
+    // 256 times the type, and the code.
     TypeCode(u32),
 }
 
-/// The five words of a packet, each of which its place allows.
+impl WrittenField {
+    // The value of the field, where packets of this form show it so.
+    fn value(self, form: FieldForm) -> Option<u32>
+        ensures { result ≡ field_value form self }
+    {
+        match self {
+            WrittenField::Opaque => Some(OPAQUE_FIELD),
+            WrittenField::Number(number) => (!shows_type_code(form)).then_some(number),
+            WrittenField::TypeCode(value) => shows_type_code(form).then_some(value),
+        }
+    }
+}
+
+// Whether fields of this form are written as a type and a code.
+fn shows_type_code(form: FieldForm) -> bool
+    ensures { result ≡ shows_type_code form }
+{
+    matches!(form, FieldForm::TypeCode)
+}
+
+// The five words of a packet, each of which its place allows.
 #[derive(Clone, Copy, Debug, PartialEq, Eq)]
-pub(crate) struct WrittenPacket {
-    pub(crate) source: Address,
-    pub(crate) destination: Address,
-    pub(crate) protocol: u16,
-    pub(crate) source_field: WrittenField,
-    pub(crate) destination_field: WrittenField,
+pub struct WrittenPacket {
+    pub source: Address,
+    pub destination: Address,
+    pub protocol: u16,
+    pub source_field: WrittenField,
+    pub destination_field: WrittenField,
 }
 
 impl WrittenPacket {
-    /// The packet that is written, where there is one.
-    pub(crate) fn packet(&self) -> Option<Packet>
-        ensures meaning { result ≡ written_packet self.now }
-        ensures possible { IfSome result (λ packet. IsTrue (is_packet packet)) }
+    // The packet that is written, where there is one.
+    pub fn packet(&self) -> Option<Packet>
+        requires { self.now.protocol ≤ opaque_protocol }
+        ensures { result ≡ written_packet self.now }
     {
-        let (family, source, destination) = ends_of(self.source, self.destination)?;
-        let source_field = self.source_field.value(self.protocol)?;
-        let destination_field = self.destination_field.value(self.protocol)?;
+        let family = self.source.family();
+        if family != self.destination.family() {
+            return None;
+        }
+        let form = form_of(self.protocol);
+        let source_field = self.source_field.value(form)?;
+        let destination_field = self.destination_field.value(form)?;
         Packet::new(
             family,
-            source,
-            destination,
+            self.source.value(),
+            self.destination.value(),
             self.protocol,
             source_field,
             destination_field,
         )
-    }
-}
-
-/// The value of an OPAQUE field.
-const OPAQUE_FIELD: u32 = 65_536;
-
-impl WrittenField {
-    /// The value of the field, where the protocol's packets show it in this form.
-    fn value(self, protocol: u16) -> Option<u32>
-        ensures { result ≡ field_value protocol self }
-    {
-        match self {
-            WrittenField::Opaque => Some(OPAQUE_FIELD),
-            WrittenField::Number(number) => (!shows_type_code(protocol)).then_some(number),
-            WrittenField::TypeCode(value) => shows_type_code(protocol).then_some(value),
-        }
-    }
-}
-
-/// Whether the protocol's packets show a type and a code.
-fn shows_type_code(protocol: u16) -> bool
-    ensures { result ≡ shows_type_code protocol }
-{
-    protocol == 1 || protocol == 58
-}
-
-/// The family of two addresses and their numbers, where they have one family.
-fn ends_of(source: Address, destination: Address) -> Option<(Family, u128, u128)>
-    ensures { result ≡ ends_of source destination }
-{
-    match (source, destination) {
-        (Address::Four(source), Address::Four(destination)) => {
-            Some((Family::Four, u128::from(source), u128::from(destination)))
-        }
-        (Address::Six(source), Address::Six(destination)) => {
-            Some((Family::Six, source, destination))
-        }
-        (Address::Four(_), Address::Six(_)) => None,
-        (Address::Six(_), Address::Four(_)) => None,
     }
 }

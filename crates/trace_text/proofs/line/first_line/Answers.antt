@@ -1,6 +1,6 @@
 use Rattle.std.proofs.Common.{ℕ, ◌≤◌, ◌==◌, length, take, sym, ap, ◌∙◌, arith}
 use Rattle.std.proofs.lemmas.List.{length-take}
-use Rattle.trace_text.proofs.Fronts.{position-take-some, position-take-none, position_or_len-le-length}
+use Rattle.sel_text.proofs.FirstPlaces.{position-take-some, position-take-none, position_or_len-le-length}
 use Rattle.trace_text.proofs.line.first_line.Goals as goal
 
 pub returns-in-Some-clause-line : goal.returns-in-Some-clause-line

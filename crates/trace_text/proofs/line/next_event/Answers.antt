@@ -2,8 +2,9 @@ use Rattle.std.proofs.Common.{Ok, Err, refl}
 use Rattle.std.specs.Prelude.{option_map}
 use Rattle.trace_text.specs.declared.fault.EventFault.TheVariants.{LineTooLong}
 use Rattle.trace_text.specs.Event.{event_now}
-use Rattle.trace_text.specs.Lines.{before_feed}
-use Rattle.trace_text.proofs.Feeds.{lines_of-first, events_of-first, drop-first, long_line}
+use Rattle.sel_text.specs.Lines.{before_feed}
+use Rattle.sel_text.proofs.Lines.{lines_of-first, drop-first}
+use Rattle.trace_text.proofs.Feeds.{events_of-first, long_line}
 use Rattle.trace_text.proofs.line.next_event.Goals as goal
 
 pub returns-in_default-clause-fault : goal.returns-in_default-clause-fault

@@ -1,14 +1,9 @@
--- What steps of the reader give. No public clause cites these.
+-- What steps of the reader give.
 use Rattle.std.specs.Prelude.{◌≡◌, ℕ, ◌<◌, List, ◌∷◌, take, drop, Result, Ok}
-use Rattle.std.specs.Borrow.{Bor}
 use Rattle.std.specs.List.{position_or_len}
 use Rattle.trace_text.specs.declared.fault.EventFault.{EventFault}
 use Rattle.trace_text.specs.Trace.{WordsLeft, where_none}
 use Rattle.trace_text.specs.Words.{is_space, words_of, behind_word, without_first_spaces, without_last_spaces}
-
--- Two texts that are lent.
-abbrev pub sides_now : Bor (List ℕ) × Bor (List ℕ) → List ℕ × List ℕ
-sides_now texts = (texts.0.now, texts.1.now)
 
 -- The words of the text that is left.
 abbrev pub words_left : ℕ → List ℕ → WordsLeft

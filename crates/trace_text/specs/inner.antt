@@ -1,0 +1,2 @@
+-- What steps of the reader give. No public clause cites these.
+pub mod Reading
