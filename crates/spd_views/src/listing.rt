@@ -1,6 +1,6 @@
-ghost use Rattle.std.specs.Prelude.{◌≡◌, ◌++◌, ◌≤◌, IfOk, OnErr, OnOk, length, map};
-ghost use Rattle.spd_views.specs.Listing.{is_listed, is_protect, listed_in, listing, view_text};
-ghost use Rattle.spd_views.specs.Listed.{listed};
+ghost use Rattle.std.specs.Prelude.{◌≡◌, ◌++◌, IfOk, OnOk, map};
+ghost use Rattle.spd_views.specs.Listing.{view_has, is_protect, listed, listed_in};
+ghost use Rattle.spd_views.specs.Listing.{listing, view_text};
 
 use lists::{List, NoMemory};
 use sel_box::Direction;
@@ -42,9 +42,9 @@ pub struct Listing<'a> {
 /// Entries of a view, in order.
 pub type ListingList<'a> = List<Listing<'a>>;
 
-/// The entries of a view: of the outbound entries those that it has, in their order, and then of the
-/// inbound ones. They are lent, so memory is taken for a direction and a reference each. Takes one pass
-/// over both.
+/// The entries of a view: of the outbound entries those that it has, in their order, and then of
+/// the inbound ones. They are lent, so memory is taken for a direction and a reference each. Takes
+/// one pass over both.
 pub fn list<'a>(
     alloc: Global,
     view: View,
@@ -54,30 +54,31 @@ pub fn list<'a>(
     ensures { IfOk result (λ list. map listed list ≡ listing view outbound.now inbound.now) }
 {
     let mut listings = List::new(alloc);
-    list_direction(view, Direction::Outbound, outbound, &mut listings)?;
-    list_direction(view, Direction::Inbound, inbound, &mut listings)?;
+    append_listings(view, Direction::Outbound, outbound, &mut listings)?;
+    append_listings(view, Direction::Inbound, inbound, &mut listings)?;
     Ok(listings)
 }
 
 // Puts the entries of a direction that a view has at the end of a list.
-fn list_direction<'a>(
+fn append_listings<'a>(
     view: View,
     direction: Direction,
     entries: &'a [Entry],
     listings: &mut ListingList<'a>,
 ) -> Result<(), NoMemory>
-    ensures { OnOk result (map listed listings.new ≡ map listed listings.old ++ listed_in view direction entries.now) }
+    ensures { OnOk result (map listed listings.new
+        ≡ map listed listings.old ++ listed_in view direction entries.now) }
 {
     for entry in entries {
-        if is_listed(view, direction, &entry.judgement) {
+        if view_has(view, direction, &entry.judgement) {
             listings.push(Listing { direction, entry })?;
         }
     }
     Ok(())
 }
 
-fn is_listed(view: View, direction: Direction, judgement: &Judgement) -> bool
-    ensures { result ≡ is_listed view direction judgement.now }
+fn view_has(view: View, direction: Direction, judgement: &Judgement) -> bool
+    ensures { result ≡ view_has view direction judgement.now }
 {
     match (view, direction) {
         (View::SpdS, _) => is_protect(judgement),

@@ -1,7 +1,6 @@
 use Rattle.std.proofs.Common.{◌≡◌, ◌++◌, map, take}
-use Rattle.spd_views.specs.Listing.{listed_in}
-use Rattle.spd_views.specs.Listed.{listed}
-use Rattle.spd_views.proofs.listing.list_direction.Given as goal
+use Rattle.spd_views.specs.Listing.{listed, listed_in}
+use Rattle.spd_views.proofs.listing.append_listings.Given as goal
 
 abbrev pub invariant-loop-entry : goal.invariant-loop-entry
 invariant-loop-entry l =
