@@ -28,10 +28,12 @@ pub TraceCauses-no_read : (faults faults' : ℕ) (outcome : Outcome) → TraceCa
 TraceCauses-no_read faults faults' outcome cause word same = let P : Outcome → Type 0 = TraceCauses faults faults' in subst P same cause
 
 -- The same of the answer of a write.
-pub EndsBy-verdict : (r : Result (Unit {0}) Outcome) (line : List ℕ) (before now : Option (List ℕ)) (faults faults' : ℕ) → OnErr r (GainsPrefix before now line) → IfErr r (WriteCauses faults faults') → IfErr r (λ outcome. (others : Answer) → EndsBy (with_line line others) before now outcome)
-EndsBy-verdict (Ok _) line before now faults faults' front cause = tt
-EndsBy-verdict (Err outcome) line before now faults faults' front cause =
-    λ others. EndsBy-unwritten (with_line line others) before now faults faults' outcome cause (GainsPrefix-first (text_of others.lines) front)
+pub EndsBy-verdict : (r : Result (Unit {0}) Outcome) (line : List ℕ) (before now : Option (List ℕ)) (faults faults' : ℕ)
+    → OnErr r (GainsPrefix before now line) → IfErr r (WriteCauses faults faults')
+    → IfErr r (λ outcome. (others : Answer) → EndsBy (with_line line others) before now outcome)
+EndsBy-verdict (Ok _) line before now faults faults' prefix cause = tt
+EndsBy-verdict (Err outcome) line before now faults faults' prefix cause =
+    λ others. EndsBy-unwritten (with_line line others) before now faults faults' outcome cause (GainsPrefix-first (text_of others.lines) prefix)
 
 -- A range that runs to the end is all that is left.
 pub all_left : (text : List ℕ) (k : ℕ) → take (length text - k) (drop k text) ≡ drop k text

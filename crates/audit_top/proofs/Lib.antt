@@ -2,6 +2,5 @@ pub mod Sent
 pub mod Filed
 pub mod Unwritten
 pub mod Events
-pub mod Parts
 pub mod Limits
 pub mod Views

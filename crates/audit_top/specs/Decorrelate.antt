@@ -1,7 +1,8 @@
 -- What `decorrelate LIMIT POLICY` answers.
 use Rattle.std.specs.List.{All}
 use Rattle.std.specs.Str.{bytes_eq}
-use Rattle.std.specs.Prelude.{◌≡◌, ◌≤◌, ◌+◌, ℕ, Bool, false, ◌==◌, ◌&&◌, not, is_some, length, map, codes, if◌then◌else◌, List, [], ◌∷◌, ◌++◌, Option, Some, None, Result, Ok, Err, unwrap_or}
+use Rattle.std.specs.Prelude.{◌≡◌, ◌≤◌, ◌+◌, ℕ, Bool, false, ◌==◌, ◌&&◌, not, is_some, length, map, codes, if◌then◌else◌}
+use Rattle.std.specs.Prelude.{List, [], ◌∷◌, ◌++◌, Option, Some, None, Result, Ok, Err, unwrap_or}
 use Rattle.pair_io.specs.Counts.{Rose}
 use Rattle.sel_box.specs.declared.packet.Direction.{Direction}
 use Rattle.sel_box.specs.declared.packet.Direction.TheVariants.{Outbound, Inbound}
@@ -98,7 +99,7 @@ CutCauses before now (Outcome.TraceFault line fault) = ⊥
 CutCauses before now (Outcome.ReadFault word) = ⊥
 CutCauses before now (Outcome.TooLong word) = ⊥
 
--- The refusals of cutting in a direction: the line of the first count that passes the limit, or want
+-- The refusals of cutting in a direction: the line of the first count that passes the limit, or out
 -- of memory.
 abbrev pub LimitCauses : Direction → Option ℕ → Outcome → Type 0
 LimitCauses direction over (Outcome.EntryLimit word towards line at) =

@@ -11,7 +11,7 @@ pub record IsAnswer (answer : Answer) (before now : Option (List ℕ)) (outcome 
   pub outcome_is : outcome ≡ answer.outcome
   pub all_lines : Gains before now (text_of answer.lines)
 
--- Against an answer: a run that ended for want of memory or at a write left the first bytes of the
+-- Against an answer: a run that ended out of memory or at a write left the first bytes of the
 -- text, one that ended at a read the first lines, and every other run gave the answer.
 abbrev pub EndsBy : Answer → Option (List ℕ) → Option (List ℕ) → Outcome → Type 0
 EndsBy answer before now Outcome.NoMemory = GainsPrefix before now (text_of answer.lines)

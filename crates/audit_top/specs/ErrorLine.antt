@@ -1,8 +1,9 @@
 -- The line that tells a refusal.
-use Rattle.std.specs.Prelude.{ℕ, List, [], ◌++◌, Option, Some, None, codes, decimal}
+use Rattle.std.specs.Prelude.{ℕ, List, ◌++◌, Option, Some, None, codes, decimal}
 use Rattle.sel_box.specs.declared.packet.Direction.{Direction}
+use Rattle.spd_file.specs.declared.fault.PolicyFault.{PolicyFault}
 use Rattle.spd_file.specs.Fault.{policy_fault_text}
-use Rattle.spd_views.specs.DirectionText.{direction_text}
+use Rattle.spd_text.specs.DirectionText.{direction_text}
 use Rattle.trace_text.specs.Fault.{event_fault_text}
 use Rattle.audit_top.specs.declared.outcome.Outcome.{Outcome}
 use Rattle.audit_top.specs.declared.outcome.TraceFault.{TraceFault}
@@ -11,34 +12,38 @@ use Rattle.audit_top.specs.declared.outcome.TraceFault.{TraceFault}
 abbrev pub word_line : ℕ → List ℕ → List ℕ
 word_line word cause = codes "error: word " ++ (decimal word ++ cause)
 
+-- A refusal of a policy file.
+abbrev pub policy_line : ℕ → PolicyFault → List ℕ
+policy_line word fault = word_line word (codes ": policy: " ++ (policy_fault_text fault ++ codes "\n"))
+
 -- What is printed of a trace line's fault.
 abbrev pub trace_fault_text : TraceFault → List ℕ
 trace_fault_text (TraceFault.Text fault) = event_fault_text fault
 trace_fault_text TraceFault.OnlyPackets = codes "only packets"
 
 -- A refusal of a trace line.
-abbrev pub trace_line : ℕ → List ℕ → List ℕ
-trace_line line cause = codes "error: trace line " ++ (decimal line ++ (codes ": " ++ (cause ++ codes "\n")))
+abbrev pub trace_line : ℕ → TraceFault → List ℕ
+trace_line line fault =
+    codes "error: trace line " ++ (decimal line ++ (codes ": " ++ (trace_fault_text fault ++ codes "\n")))
 
--- The trace line of an edit that passed a limit, where there is one.
-abbrev pub trace_place_text : Option ℕ → List ℕ
-trace_place_text None = []
-trace_place_text (Some line) = codes " at trace line " ++ decimal line
+-- The end of the line of a limit that is passed: the trace line of the edit, where there is one.
+abbrev pub limit_end : Option ℕ → List ℕ
+limit_end None = codes "\n"
+limit_end (Some line) = codes " at trace line " ++ (decimal line ++ codes "\n")
 
--- The direction and the policy line at which a limit is passed.
-abbrev pub limit_text : Direction → ℕ → Option ℕ → List ℕ
-limit_text direction line at = direction_text direction ++ (codes " line " ++ (decimal line ++ trace_place_text at))
+-- A limit that is passed: the direction, and the policy line.
+abbrev pub limit_line : ℕ → Direction → ℕ → Option ℕ → List ℕ
+limit_line word direction line at =
+    word_line word (codes ": entry limit: " ++ (direction_text direction ++ (codes " line " ++ (decimal line ++ limit_end at))))
 
 -- The line of an outcome, with its end; none where the run came to an answer.
 abbrev pub error_line : Outcome → Option (List ℕ)
 error_line Outcome.Done = None
 error_line Outcome.Usage = Some (codes "error: usage\n")
-error_line (Outcome.PolicyFault word fault) = Some (word_line word (codes ": policy: " ++ (policy_fault_text fault ++ codes "\n")))
-error_line (Outcome.TraceFault line fault) =
-    Some (trace_line line (trace_fault_text fault))
+error_line (Outcome.PolicyFault word fault) = Some (policy_line word fault)
+error_line (Outcome.TraceFault line fault) = Some (trace_line line fault)
 error_line (Outcome.TooLong word) = Some (word_line word (codes ": too long\n"))
-error_line (Outcome.EntryLimit word direction line at) =
-    Some (word_line word (codes ": entry limit: " ++ (limit_text direction line at ++ codes "\n")))
+error_line (Outcome.EntryLimit word direction line at) = Some (limit_line word direction line at)
 error_line (Outcome.ReadFault word) = Some (word_line word (codes ": cannot read\n"))
 error_line Outcome.WriteFault = Some (codes "error: cannot write\n")
 error_line Outcome.NoMemory = Some (codes "error: out of memory\n")

@@ -21,7 +21,7 @@ use Rattle.audit_top.specs.VerdictLine.{verdict_line}
 abbrev pub packet_line : List LineParts → ℕ → Direction → PacketFields → List ℕ
 packet_line lines number direction packet =
     let verdict = verdict_of direction (view_of direction packet) lines in
-    verdict_line number verdict.judgement (name_at lines verdict.line)
+    verdict_line number (record { name = name_at lines verdict.line; judgement = verdict.judgement })
 
 -- What a trace line of that number asks for, before the others: a packet has its line, nothing is passed
 -- over, and another event is refused.

@@ -16,5 +16,5 @@ LoadCauses place most name content before now Outcome.Done = ⊥
 LoadCauses place most name content before now Outcome.Usage = ⊥
 LoadCauses place most name content before now (Outcome.PolicyFault word fault) = ⊥
 LoadCauses place most name content before now (Outcome.TraceFault line fault) = ⊥
-LoadCauses place most name content before now (Outcome.EntryLimit at direction line trace) = ⊥
+LoadCauses place most name content before now (Outcome.EntryLimit word direction line at) = ⊥
 LoadCauses place most name content before now Outcome.WriteFault = ⊥

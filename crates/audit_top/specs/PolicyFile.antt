@@ -14,7 +14,7 @@ abbrev pub with_policy : ℕ → Result (List LineParts) PolicyFault → (List L
 with_policy place (Err fault) next = Some (ending (Outcome.PolicyFault place fault))
 with_policy place (Ok lines) next = next lines
 
--- The refusals of reading a policy: its fault, or want of memory.
+-- The refusals of reading a policy: its fault, or out of memory.
 abbrev pub PolicyCauses : ℕ → Result (List LineParts) PolicyFault → Outcome → Type 0
 PolicyCauses place meaning (Outcome.PolicyFault word fault) = (word ≡ place) × (meaning ≡ Err fault)
 PolicyCauses place meaning Outcome.NoMemory = Unit {0}

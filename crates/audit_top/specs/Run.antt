@@ -26,7 +26,7 @@ limits_of words =
     else if is_decorrelate words then decorrelate_limits
     else (λ place. None)
 
--- A line went out whole, or a front of it and the sink counted a fault.
+-- A line went out whole, or a prefix of it and the sink counted a fault.
 abbrev pub ReportsLine : Option (List ℕ) → Option (List ℕ) → Option (List ℕ) → ℕ → ℕ → Type 0
 ReportsLine None before now faults faults' = now ≡ before
 ReportsLine (Some line) before now faults faults' =

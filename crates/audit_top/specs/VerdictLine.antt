@@ -1,9 +1,8 @@
 -- The line of a verdict.
 use Rattle.std.specs.Prelude.{ℕ, List, ◌++◌, codes, decimal}
-use Rattle.spd_line.specs.declared.judgement.Judgement.{Judgement}
-use Rattle.spd_views.specs.JudgementText.{judgement_text}
+use Rattle.spd_line.specs.declared.judgement.Answer.{Answer}
+use Rattle.spd_text.specs.JudgementText.{verdict_text}
 
--- The number of a trace line, the judgement of its packet, and the name of the line that gave it.
-abbrev pub verdict_line : ℕ → Judgement → List ℕ → List ℕ
-verdict_line number judgement name =
-    decimal number ++ (codes " " ++ (judgement_text judgement ++ (codes " " ++ (name ++ codes "\n"))))
+-- The number of a trace line, and the verdict of its packet.
+abbrev pub verdict_line : ℕ → Answer → List ℕ
+verdict_line number answer = decimal number ++ (codes " " ++ (verdict_text answer ++ codes "\n"))

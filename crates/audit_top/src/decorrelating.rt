@@ -1,7 +1,11 @@
-ghost use Rattle.std.specs.Prelude.{◌≡◌, ◌+◌, ◌≤◌, length, map, IsTrue, None, OnOk, OnErr, IfOk, IfErr, is_some, unwrap_or};
+ghost use Rattle.std.specs.Prelude.{◌≡◌, ◌+◌, ◌≤◌, length, map, is_some, unwrap_or};
+ghost use Rattle.std.specs.Prelude.{IsTrue, None, OnOk, OnErr, IfOk, IfErr};
 ghost use Rattle.pair_io.specs.Gains.{Gains, GainsPrefix};
 ghost use Rattle.audit_top.specs.Answer.{text_of};
-ghost use Rattle.audit_top.specs.Decorrelate.{decorrelate_answer, decorrelate_limits, entry_line, is_decorrelate, limit_in, lines_answer, view_lines, views_lines, AreListedLinked, CutCauses, LimitCauses};
+ghost use Rattle.audit_top.specs.Decorrelate.{decorrelate_answer, decorrelate_limits};
+ghost use Rattle.audit_top.specs.Decorrelate.{entry_line, is_decorrelate, limit_in, lines_answer};
+ghost use Rattle.audit_top.specs.Decorrelate.{view_lines, views_lines};
+ghost use Rattle.audit_top.specs.Decorrelate.{AreListedLinked, CutCauses, LimitCauses};
 ghost use Rattle.audit_top.specs.Ends.{counts, merged, Causes, Ends, EndsBy, Leaves};
 ghost use Rattle.audit_top.specs.ViewLine.{name_line};
 ghost use Rattle.audit_top.specs.Words.{word_at};
@@ -9,7 +13,7 @@ ghost use Rattle.audit_top.specs.Writing.{WriteCauses};
 ghost use Rattle.spd_cut.specs.Entries.{entries};
 ghost use Rattle.spd_cut.specs.StandsFor.{AreLinked};
 ghost use Rattle.spd_cut.specs.Steps.{first_over, steps};
-ghost use Rattle.spd_views.specs.Listed.{listed};
+ghost use Rattle.spd_views.specs.Listing.{listed};
 
 use crate::Outcome;
 use crate::files::{load_word, word};
@@ -58,8 +62,8 @@ fn limit_in(word: &str) -> Option<u32>
     }
 }
 
-// Writes the three views of the policy that the third word names, where no count of entries passes the
-// limit of the second.
+// Writes the three views of the policy that the third word names, where no count of entries passes
+// the limit of the second.
 pub fn decorrelate<F: Files, O: Sink>(
     alloc: Global,
     words: &WordList,
@@ -67,10 +71,12 @@ pub fn decorrelate<F: Files, O: Sink>(
     out: &mut O,
 ) -> Outcome
     requires { IsTrue (is_decorrelate words.now) }
-    ensures ends { Ends (decorrelate_answer (F.told files.old) words.now) (O.told out.old) (O.told out.new) result }
+    ensures ends { Ends (decorrelate_answer (F.told files.old) words.now)
+        (O.told out.old) (O.told out.new) result }
     ensures causes { Causes (is_decorrelate words.now) decorrelate_limits words.now
         (counts (F.faults files.old) (F.taken files.old) (F.end files.old) (O.faults out.old))
-        (counts (F.faults files.new) (F.taken files.new) (F.end files.new) (O.faults out.new)) result }
+        (counts (F.faults files.new) (F.taken files.new) (F.end files.new) (O.faults out.new))
+        result }
     ensures leaves { Leaves (O.told out.old) (O.told out.new) result }
 {
     match decorrelate_file(alloc, words, files, out) {
@@ -86,10 +92,12 @@ fn decorrelate_file<F: Files, O: Sink>(
     out: &mut O,
 ) -> Result<Outcome, Outcome>
     requires { IsTrue (is_decorrelate words.now) }
-    ensures ends { Ends (decorrelate_answer (F.told files.old) words.now) (O.told out.old) (O.told out.new) (merged result) }
+    ensures ends { Ends (decorrelate_answer (F.told files.old) words.now)
+        (O.told out.old) (O.told out.new) (merged result) }
     ensures causes { Causes (is_decorrelate words.now) decorrelate_limits words.now
         (counts (F.faults files.old) (F.taken files.old) (F.end files.old) (O.faults out.old))
-        (counts (F.faults files.new) (F.taken files.new) (F.end files.new) (O.faults out.new)) (merged result) }
+        (counts (F.faults files.new) (F.taken files.new) (F.end files.new) (O.faults out.new))
+        (merged result) }
     ensures leaves { Leaves (O.told out.old) (O.told out.new) (merged result) }
 {
     let limit = limit_of(words);
@@ -114,7 +122,8 @@ fn decorrelate_lines<O: Sink>(
     out: &mut O,
 ) -> Result<Outcome, Outcome>
     requires { length lines.now ≤ 4096 }
-    ensures ends { EndsBy (lines_answer limit lines.now) (O.told out.old) (O.told out.new) (merged result) }
+    ensures ends { EndsBy (lines_answer limit lines.now)
+        (O.told out.old) (O.told out.new) (merged result) }
     ensures causes { CutCauses (O.faults out.old) (O.faults out.new) (merged result) }
     ensures leaves { Leaves (O.told out.old) (O.told out.new) (merged result) }
 {
@@ -135,7 +144,8 @@ fn cut(
     ensures entries { IfOk result (λ list. list ≡ entries direction lines.now) }
     ensures links { IfOk result (AreLinked (length lines.now)) }
     ensures within { OnOk result (first_over limit (steps direction lines.now) ≡ None) }
-    ensures refused { IfErr result (LimitCauses direction (first_over limit (steps direction lines.now))) }
+    ensures refused { IfErr result
+        (LimitCauses direction (first_over limit (steps direction lines.now))) }
 {
     match spd_cut::decorrelate(alloc, lines, direction, limit) {
         Ok(entries) => Ok(entries),
@@ -161,8 +171,10 @@ fn write_views<O: Sink>(
     requires few { length lines.now ≤ 4096 }
     requires outbound { AreLinked (length lines.now) outbound.now }
     requires inbound { AreLinked (length lines.now) inbound.now }
-    ensures written { OnOk result (Gains (O.told out.old) (O.told out.new) (text_of (views_lines lines.now outbound.now inbound.now))) }
-    ensures prefix { OnErr result (GainsPrefix (O.told out.old) (O.told out.new) (text_of (views_lines lines.now outbound.now inbound.now))) }
+    ensures written { OnOk result (Gains (O.told out.old) (O.told out.new)
+        (text_of (views_lines lines.now outbound.now inbound.now))) }
+    ensures prefix { OnErr result (GainsPrefix (O.told out.old) (O.told out.new)
+        (text_of (views_lines lines.now outbound.now inbound.now))) }
     ensures causes { IfErr result (WriteCauses (O.faults out.old) (O.faults out.new)) }
 {
     let mut text = Vec::new(alloc);
@@ -172,7 +184,7 @@ fn write_views<O: Sink>(
     Ok(())
 }
 
-// Writes the name of a view and the lines of its entries, each of which is made in the given buffer.
+// Writes the name of a view and the lines of its entries, each made in the given buffer.
 #[tactic(auto, using(pair_io::proofs::Gains::gains))]
 fn write_view<O: Sink>(
     alloc: Global,
@@ -186,8 +198,10 @@ fn write_view<O: Sink>(
     requires few { length lines.now ≤ 4096 }
     requires outbound { AreLinked (length lines.now) outbound.now }
     requires inbound { AreLinked (length lines.now) inbound.now }
-    ensures written { OnOk result (Gains (O.told out.old) (O.told out.new) (text_of (view_lines lines.now outbound.now inbound.now view))) }
-    ensures prefix { OnErr result (GainsPrefix (O.told out.old) (O.told out.new) (text_of (view_lines lines.now outbound.now inbound.now view))) }
+    ensures written { OnOk result (Gains (O.told out.old) (O.told out.new)
+        (text_of (view_lines lines.now outbound.now inbound.now view))) }
+    ensures prefix { OnErr result (GainsPrefix (O.told out.old) (O.told out.new)
+        (text_of (view_lines lines.now outbound.now inbound.now view))) }
     ensures causes { IfErr result (WriteCauses (O.faults out.old) (O.faults out.new)) }
     ensures faults { O.faults out.old ≤ O.faults out.new }
 {
@@ -199,7 +213,8 @@ fn write_view<O: Sink>(
 
 fn write_name<O: Sink>(view: View, text: &mut Vec<u8>, out: &mut O) -> Result<(), Outcome>
     ensures written { OnOk result (Gains (O.told out.old) (O.told out.new) (name_line view)) }
-    ensures prefix { OnErr result (GainsPrefix (O.told out.old) (O.told out.new) (name_line view)) }
+    ensures prefix { OnErr result
+        (GainsPrefix (O.told out.old) (O.told out.new) (name_line view)) }
     ensures causes { IfErr result (WriteCauses (O.faults out.old) (O.faults out.new)) }
     ensures faults { O.faults out.old ≤ O.faults out.new }
 {
@@ -218,8 +233,10 @@ fn write_listings<O: Sink>(
 ) -> Result<(), Outcome>
     requires few { length lines.now ≤ 4096 }
     requires links { AreListedLinked (length lines.now) (map listed listings.now) }
-    ensures written { OnOk result (Gains (O.told out.old) (O.told out.new) (text_of (map (entry_line lines.now) (map listed listings.now)))) }
-    ensures prefix { OnErr result (GainsPrefix (O.told out.old) (O.told out.new) (text_of (map (entry_line lines.now) (map listed listings.now)))) }
+    ensures written { OnOk result (Gains (O.told out.old) (O.told out.new)
+        (text_of (map (entry_line lines.now) (map listed listings.now)))) }
+    ensures prefix { OnErr result (GainsPrefix (O.told out.old) (O.told out.new)
+        (text_of (map (entry_line lines.now) (map listed listings.now)))) }
     ensures causes { IfErr result (WriteCauses (O.faults out.old) (O.faults out.new)) }
     ensures faults { O.faults out.old ≤ O.faults out.new }
 {
@@ -239,8 +256,10 @@ fn write_listing<O: Sink>(
     requires few { length lines.now ≤ 4096 }
     requires first { 1 ≤ listing.now.entry.now.link }
     requires last { listing.now.entry.now.link ≤ length lines.now + 1 }
-    ensures written { OnOk result (Gains (O.told out.old) (O.told out.new) (entry_line lines.now (listed listing.now))) }
-    ensures prefix { OnErr result (GainsPrefix (O.told out.old) (O.told out.new) (entry_line lines.now (listed listing.now))) }
+    ensures written { OnOk result (Gains (O.told out.old) (O.told out.new)
+        (entry_line lines.now (listed listing.now))) }
+    ensures prefix { OnErr result (GainsPrefix (O.told out.old) (O.told out.new)
+        (entry_line lines.now (listed listing.now))) }
     ensures causes { IfErr result (WriteCauses (O.faults out.old) (O.faults out.new)) }
     ensures faults { O.faults out.old ≤ O.faults out.new }
 {

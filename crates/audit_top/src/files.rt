@@ -19,10 +19,13 @@ pub fn load_word<F: Files>(
     requires first { 1 ≤ place }
     requires last { place ≤ length words.now }
     requires most { most ≤ 1073741824 }
-    ensures content { IfOk result (λ bytes. IfSome (F.told files.old (word_at words.now place)) (λ content. bytes ≡ content)) }
+    ensures content { IfOk result (λ bytes.
+        IfSome (F.told files.old (word_at words.now place)) (λ content. bytes ≡ content)) }
     ensures within { IfOk result (λ bytes. length bytes ≤ most) }
-    ensures refused { IfErr result (LoadCauses place most (word_at words.now place) (F.told files.old (word_at words.now place))
-        (counts (F.faults files.old) (F.taken files.old) (F.end files.old) 0) (counts (F.faults files.new) (F.taken files.new) (F.end files.new) 0)) }
+    ensures refused { IfErr result (LoadCauses place most
+        (word_at words.now place) (F.told files.old (word_at words.now place))
+        (counts (F.faults files.old) (F.taken files.old) (F.end files.old) 0)
+        (counts (F.faults files.new) (F.taken files.new) (F.end files.new) 0)) }
     ensures told { F.told files.new ≡ F.told files.old }
     ensures faults { NoneFell (F.faults files.old) (F.faults files.new) }
     ensures taken { F.taken files.old ≤ F.taken files.new }

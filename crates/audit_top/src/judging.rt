@@ -1,15 +1,17 @@
-ghost use Rattle.std.specs.Prelude.{◌≡◌, ◌+◌, ◌<◌, ◌≤◌, drop, length, option_map, IsTrue, OnOk, OnErr, IfOk, IfErr};
+ghost use Rattle.std.specs.Prelude.{◌≡◌, ◌+◌, ◌<◌, ◌≤◌, drop, length, option_map};
+ghost use Rattle.std.specs.Prelude.{IsTrue, OnOk, OnErr, IfOk, IfErr};
 ghost use Rattle.pair_io.specs.Gains.{Gains, GainsPrefix};
 ghost use Rattle.audit_top.specs.Answer.{Answer, IsSent};
 ghost use Rattle.audit_top.specs.Ends.{counts, merged, Causes, Ends, EndsBy, Leaves};
-ghost use Rattle.audit_top.specs.Judge.{by_event, is_judge, judge_answer, judge_limits, packet_line, trace_answer, TraceCauses};
+ghost use Rattle.audit_top.specs.Judge.{by_event, is_judge, judge_answer, judge_limits};
+ghost use Rattle.audit_top.specs.Judge.{packet_line, trace_answer, TraceCauses};
 ghost use Rattle.audit_top.specs.Writing.{WriteCauses};
 ghost use Rattle.trace_text.specs.Event.{event_now};
 ghost use Rattle.trace_text.specs.Trace.{events_of};
 
 use crate::files::load_word;
 use crate::policy_file::{MOST_POLICY, read_lines};
-use crate::verdict_line::append_verdict;
+use crate::verdict_line::append_verdict_line;
 use crate::{Outcome, TraceFault};
 use pair_io::{Files, Sink, WordList, write_all};
 use sel_box::{Direction, Packet};
@@ -40,10 +42,12 @@ pub fn judge<F: Files, O: Sink>(
     out: &mut O,
 ) -> Outcome
     requires { IsTrue (is_judge words.now) }
-    ensures ends { Ends (judge_answer (F.told files.old) words.now) (O.told out.old) (O.told out.new) result }
+    ensures ends { Ends (judge_answer (F.told files.old) words.now)
+        (O.told out.old) (O.told out.new) result }
     ensures causes { Causes (is_judge words.now) judge_limits words.now
         (counts (F.faults files.old) (F.taken files.old) (F.end files.old) (O.faults out.old))
-        (counts (F.faults files.new) (F.taken files.new) (F.end files.new) (O.faults out.new)) result }
+        (counts (F.faults files.new) (F.taken files.new) (F.end files.new) (O.faults out.new))
+        result }
     ensures leaves { Leaves (O.told out.old) (O.told out.new) result }
 {
     match judge_files(alloc, words, files, out) {
@@ -59,10 +63,12 @@ fn judge_files<F: Files, O: Sink>(
     out: &mut O,
 ) -> Result<Outcome, Outcome>
     requires { IsTrue (is_judge words.now) }
-    ensures ends { Ends (judge_answer (F.told files.old) words.now) (O.told out.old) (O.told out.new) (merged result) }
+    ensures ends { Ends (judge_answer (F.told files.old) words.now)
+        (O.told out.old) (O.told out.new) (merged result) }
     ensures causes { Causes (is_judge words.now) judge_limits words.now
         (counts (F.faults files.old) (F.taken files.old) (F.end files.old) (O.faults out.old))
-        (counts (F.faults files.new) (F.taken files.new) (F.end files.new) (O.faults out.new)) (merged result) }
+        (counts (F.faults files.new) (F.taken files.new) (F.end files.new) (O.faults out.new))
+        (merged result) }
     ensures leaves { Leaves (O.told out.old) (O.told out.new) (merged result) }
 {
     let policy = load_word(alloc, files, words, 2, MOST_POLICY)?;
@@ -79,7 +85,8 @@ fn judge_trace<O: Sink>(
     out: &mut O,
 ) -> Result<Outcome, Outcome>
     requires { length lines.now ≤ 4096 }
-    ensures ends { EndsBy (trace_answer lines.now 1 (events_of trace.now)) (O.told out.old) (O.told out.new) (merged result) }
+    ensures ends { EndsBy (trace_answer lines.now 1 (events_of trace.now))
+        (O.told out.old) (O.told out.new) (merged result) }
     ensures causes { TraceCauses (O.faults out.old) (O.faults out.new) (merged result) }
 {
     let mut text = Vec::new(alloc);
@@ -103,10 +110,13 @@ fn judge_line<O: Sink>(
 ) -> Result<usize, Outcome>
     requires few { length lines.now ≤ 4096 }
     requires some { 0 < length trace.now }
-    ensures sent { IfOk result (λ taken. IsSent (trace_answer lines.now number (events_of trace.now))
-        (trace_answer lines.now (number + 1) (events_of (drop taken trace.now))) (O.told out.old) (O.told out.new)) }
+    ensures sent { IfOk result (λ taken. IsSent
+        (trace_answer lines.now number (events_of trace.now))
+        (trace_answer lines.now (number + 1) (events_of (drop taken trace.now)))
+        (O.told out.old) (O.told out.new)) }
     ensures taken { IfOk result (λ taken. (0 < taken) × (taken ≤ length trace.now)) }
-    ensures ends { IfErr result (EndsBy (trace_answer lines.now number (events_of trace.now)) (O.told out.old) (O.told out.new)) }
+    ensures ends { IfErr result (EndsBy (trace_answer lines.now number (events_of trace.now))
+        (O.told out.old) (O.told out.new)) }
     ensures causes { IfErr result (TraceCauses (O.faults out.old) (O.faults out.new)) }
     ensures faults { O.faults out.old ≤ O.faults out.new }
 {
@@ -122,8 +132,8 @@ fn judge_line<O: Sink>(
     }
 }
 
-// Judges a packet and writes its line; a trace line that asks for nothing is passed over, and another
-// event is refused.
+// Judges a packet and writes its line; a trace line that asks for nothing is passed over, and
+// another event is refused.
 fn judge_event<O: Sink>(
     lines: &LineList,
     number: u64,
@@ -132,10 +142,12 @@ fn judge_event<O: Sink>(
     out: &mut O,
 ) -> Result<(), Outcome>
     requires { length lines.now ≤ 4096 }
-    ensures sent { OnOk result ((others : Answer)
-        → IsSent (by_event lines.now number (option_map event_now event.now) others) others (O.told out.old) (O.told out.new)) }
-    ensures ends { IfErr result (λ outcome. (others : Answer)
-        → EndsBy (by_event lines.now number (option_map event_now event.now) others) (O.told out.old) (O.told out.new) outcome) }
+    ensures sent { OnOk result ((others : Answer) → IsSent
+        (by_event lines.now number (option_map event_now event.now) others) others
+        (O.told out.old) (O.told out.new)) }
+    ensures ends { IfErr result (λ outcome. (others : Answer) → EndsBy
+        (by_event lines.now number (option_map event_now event.now) others)
+        (O.told out.old) (O.told out.new) outcome) }
     ensures causes { IfErr result (TraceCauses (O.faults out.old) (O.faults out.new)) }
     ensures faults { O.faults out.old ≤ O.faults out.new }
 {
@@ -161,16 +173,22 @@ fn write_verdict<O: Sink>(
     out: &mut O,
 ) -> Result<(), Outcome>
     requires { length lines.now ≤ 4096 }
-    ensures written { OnOk result (Gains (O.told out.old) (O.told out.new) (packet_line lines.now number direction packet.now)) }
-    ensures prefix { OnErr result (GainsPrefix (O.told out.old) (O.told out.new) (packet_line lines.now number direction packet.now)) }
+    ensures written { OnOk result (Gains (O.told out.old) (O.told out.new)
+        (packet_line lines.now number direction packet.now)) }
+    ensures prefix { OnErr result (GainsPrefix (O.told out.old) (O.told out.new)
+        (packet_line lines.now number direction packet.now)) }
     ensures causes { IfErr result (WriteCauses (O.faults out.old) (O.faults out.new)) }
     ensures faults { O.faults out.old ≤ O.faults out.new }
 {
     let point = sel_box::view(direction, packet);
     let verdict = spd_line::judge(lines, direction, &point);
     let name = spd_line::name_of(lines, verdict.line);
+    let answer = spd_line::Answer {
+        name,
+        judgement: verdict.judgement,
+    };
     text.clear();
-    append_verdict(number, &verdict.judgement, &name, text)?;
+    append_verdict_line(number, &answer, text)?;
     write_all(out, text.as_slice())?;
     Ok(())
 }

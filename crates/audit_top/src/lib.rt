@@ -5,8 +5,6 @@
 pub use outcome::{Outcome, TraceFault, status};
 pub use running::{report, run};
 
-#[cfg(test)]
-mod decorrelate_tests;
 mod decorrelating;
 mod error_line;
 mod files;

@@ -36,8 +36,9 @@ pub enum Outcome {
     TooLong {
         word: u32,
     },
-    /// More entries than LIMIT come up while the policy that the word names is cut in a direction: at
-    /// one of its lines, counted from 1, and where a trace line's edit made it so, at that trace line.
+    /// More entries than LIMIT come up while the policy that the word names is cut in a direction:
+    /// at one of its lines, counted from 1, and where a trace line's edit made it so, at that trace
+    /// line.
     EntryLimit {
         word: u32,
         direction: Direction,

@@ -26,7 +26,8 @@ pub loop-listing-preserved : goal.loop-listing-preserved
 loop-listing-preserved g c =
     let within : c.loop-listing.listing-index < length c.args.listings.now = omega arith in
     record {
-      written = GainsSoFar-more _ _ (listings_from c.args.lines.now c.args.listings.now c.loop-listing.listing-index c.listing-item.result within c.listing-item.is)
+      written = GainsSoFar-more _ _ (listings_from c.args.lines.now c.args.listings.now c.loop-listing.listing-index c.listing-item.result within
+          c.listing-item.is)
           c.loop-listing.invariant.written c.in_ok-write_listing.ensures.written;
       faults = omega arith;
     }

@@ -1,6 +1,6 @@
 use Rattle.std.proofs.Common.{◌≤◌, drop, map}
 use Rattle.pair_io.proofs.Gains.{GainsSoFar}
-use Rattle.spd_views.specs.Listed.{listed}
+use Rattle.spd_views.specs.Listing.{listed}
 use Rattle.audit_top.specs.Answer.{text_of}
 use Rattle.audit_top.specs.Decorrelate.{entry_line}
 use Rattle.audit_top.proofs.decorrelating.write_listings.Given as goal

@@ -1,5 +1,5 @@
 use Rattle.std.proofs.Common.{List, length, map, sym, ◌∙◌, ap, subst}
-use Rattle.spd_views.specs.Listed.{listed}
+use Rattle.spd_views.specs.Listing.{listed}
 use Rattle.spd_views.specs.Listing.{ListedEntry}
 use Rattle.audit_top.specs.Decorrelate.{AreListedLinked}
 use Rattle.audit_top.proofs.Views.{AreListedLinked-listing}

@@ -1,9 +1,17 @@
-use Rattle.std.proofs.Common.{codes, decimal}
-use Rattle.audit_top.specs.ErrorLine.{limit_text}
-use Rattle.audit_top.proofs.Parts.{five_parts}
+use Rattle.std.proofs.Common.{refl}
 use Rattle.audit_top.proofs.error_line.line_of_limit.Goals as goal
 
-pub returns : goal.returns
-returns c =
-    five_parts _ _ _ _ _ (codes "error: word ") (decimal c.args.word) (codes ": entry limit: ") (limit_text c.args.direction c.args.number c.args.at) (codes "\n")
-    c.plain_line-line.ensures.bytes c.push_number.ensures.bytes c.push_str.ensures.bytes c.push_limit.ensures.bytes c.push_str-2.ensures.bytes
+pub returns-in-None : goal.returns-in-None
+returns-in-None c =
+    rw (c.in-None.is, c.joined.ensures, c.format-word.ensures.text, c.direction_word-direction.ensures.text, c.format-line.ensures.text) refl
+
+pub returns-in-Some : goal.returns-in-Some
+returns-in-Some c =
+    rw (
+      c.in-Some.is,
+      c.joined-in-Some.ensures,
+      c.format-word.ensures.text,
+      c.direction_word-direction.ensures.text,
+      c.format-line.ensures.text,
+      c.format.ensures.text,
+    ) refl
