@@ -48,7 +48,7 @@ unfoldable pub rows_follow : ℕ → List ClassRow → Bool
 rows_follow next [] = next == opaque_protocol + 1
 rows_follow next (row ∷ rest) = (row.first == next) && nat_le row.first row.last && rows_follow (row.last + 1) rest
 
--- The rows part the protocols from 0 to 256, and each is right.
+-- The rows partition the protocols from 0 to 256, and each is right.
 unfoldable pub are_classes : List ClassRow → Bool
 are_classes rows = rows_follow 0 rows && list_all row_is_right rows
 
@@ -69,22 +69,23 @@ pub record AreClasses (rows : List ClassRow) : Type 0 where
 -- The rows: first and last protocol, what their packets show, and the greatest number of a field.
 unfoldable pub class_rows : List ClassRow
 class_rows =
-    let row : ℕ → ℕ → Shape → ℕ → ClassRow = λ first last shape top. record { first = first; last = last; shape = shape; top = top } in
-    row 0 0 NoField 0
-    ∷ row 1 1 OneField 65535  -- ICMP
-    ∷ row 2 5 NoField 0
-    ∷ row 6 6 TwoPorts 65535  -- TCP
-    ∷ row 7 16 NoField 0
-    ∷ row 17 17 TwoPorts 65535  -- UDP
-    ∷ row 18 32 NoField 0
-    ∷ row 33 33 TwoPorts 65535  -- DCCP
-    ∷ row 34 57 NoField 0
-    ∷ row 58 58 OneField 65535  -- ICMPv6
-    ∷ row 59 131 NoField 0
-    ∷ row 132 132 TwoPorts 65535  -- SCTP
-    ∷ row 133 134 NoField 0
-    ∷ row 135 135 OneField 255  -- Mobility Header
-    ∷ row 136 136 TwoPorts 65535  -- UDP-Lite
-    ∷ row 137 255 NoField 0
-    ∷ row 256 256 NoField 0  -- OPAQUE
+    let protocols : ℕ → ℕ → Shape → ℕ → ClassRow =
+    λ first last shape top. record { first = first; last = last; shape = shape; top = top } in
+    protocols 0 0 NoField 0
+    ∷ protocols 1 1 OneField 65535  -- ICMP
+    ∷ protocols 2 5 NoField 0
+    ∷ protocols 6 6 TwoPorts 65535  -- TCP
+    ∷ protocols 7 16 NoField 0
+    ∷ protocols 17 17 TwoPorts 65535  -- UDP
+    ∷ protocols 18 32 NoField 0
+    ∷ protocols 33 33 TwoPorts 65535  -- DCCP
+    ∷ protocols 34 57 NoField 0
+    ∷ protocols 58 58 OneField 65535  -- ICMPv6
+    ∷ protocols 59 131 NoField 0
+    ∷ protocols 132 132 TwoPorts 65535  -- SCTP
+    ∷ protocols 133 134 NoField 0
+    ∷ protocols 135 135 OneField 255  -- Mobility Header
+    ∷ protocols 136 136 TwoPorts 65535  -- UDP-Lite
+    ∷ protocols 137 255 NoField 0
+    ∷ protocols 256 256 NoField 0  -- OPAQUE
     ∷ []

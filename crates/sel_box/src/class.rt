@@ -47,7 +47,7 @@ impl ClassRow {
     }
 }
 
-/// The classes of protocols: rows that part the numbers from 0 to 256 in rising order, each with
+/// The classes of protocols: rows that partition the numbers from 0 to 256 in rising order, each with
 /// what the packets of its protocols show.
 #[derive(Clone, Copy, Debug)]
 pub struct Classes<const N: usize> {
@@ -57,7 +57,7 @@ pub struct Classes<const N: usize> {
 }
 
 impl<const N: usize> Classes<N> {
-    /// The row that has the protocol, 0 to 256. It takes a time in the number of rows.
+    /// The row that has the protocol, 0 to 256. It takes time in proportion to the rows.
     pub fn row(&self, protocol: u16) -> &ClassRow
         requires { protocol ≤ opaque_protocol }
         ensures protocol { IsTrue (row_has result.now protocol) }

@@ -19,7 +19,7 @@ pub enum FieldForm {
 }
 
 /// The form of the fields of a protocol, 256 being OPAQUE, by its row in the table of classes. It
-/// takes a time in the number of rows, and no memory.
+/// takes time in proportion to the number of rows, and no memory.
 pub fn form_of(protocol: u16) -> FieldForm
     requires { protocol ≤ opaque_protocol }
     ensures { result ≡ form_of protocol }

@@ -9,7 +9,7 @@ use crate::shown::PacketRanges;
 /// The least packet whose outbound view lies in the box: packets are in order of family, source,
 /// destination, protocol, source field and destination field. `None` exactly where there is none.
 ///
-/// It takes a time in the number of classes of protocols, and no memory.
+/// It takes time in proportion to the classes of protocols, and no memory.
 pub fn least_packet(region: &AnyBox) -> Option<Packet>
     ensures found { IfSome result (IsLeastPacket region.now) }
     ensures none { IfNone result (HasNoPacket region.now) }

@@ -22,7 +22,7 @@ pub fn is_real(point: &Point) -> bool
 /// shows one field shows it on the sender's side alone, so a box may have views of inbound packets
 /// and none of an outbound one.
 ///
-/// It takes a time in the number of classes of protocols, and no memory.
+/// It takes time in proportion to the classes of protocols, and no memory.
 #[tactic(auto, unfolding(crate::specs::SomePoint::has_real_point))]
 pub fn has_real(region: &AnyBox) -> bool
     ensures test { result ≡ has_real_point region.now }

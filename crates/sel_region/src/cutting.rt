@@ -28,9 +28,9 @@ pub fn cut_each<R: Region>(
 /// Leaves of the pieces what is left of them without the regions, each region taken out of all
 /// pieces before the next.
 ///
-/// This takes a time in the sum, over the regions, of the pieces that each of them finds. `spare`
-/// serves as in `cut_each`. Where there is no memory, some first regions are taken out, and the
-/// others aren't.
+/// This takes time in proportion to the sum, over the regions, of the pieces that each finds.
+/// `spare` serves as in `cut_each`. Where there is no memory, some first regions are taken out, and
+/// the others aren't.
 pub fn cut_all<R: Region>(
     pieces: &mut Vec<R>,
     regions: &[R],

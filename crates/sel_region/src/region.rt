@@ -38,7 +38,7 @@ impl<R: Copy> Frame<R> for NoFrame {
 ///
 /// Each kind of region proves the laws of `IsRegion` (`specs/Region.antt`), which say by points
 /// what the calls answer. Code that is generic over regions needs nothing else. All calls but
-/// `minus` and `minus_in` take no memory, and each takes a time in the number of axes alone.
+/// `minus` and `minus_in` take no memory, and each takes time in proportion to the number of axes.
 pub trait Region: Copy {
     /// A point: one number for each axis.
     type Point;

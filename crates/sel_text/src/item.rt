@@ -26,7 +26,7 @@ pub enum AddressItem {
 /// It is `OutOfRange` where a text of one of these forms has a larger number or prefix length or a
 /// first address above the last, and `NotInGrammar` at every other text that is refused. Takes no
 /// memory, and time in proportion to the text.
-#[tactic(auto, unfolding(crate::specs::inner::Reading::prefix_meaning, crate::specs::inner::Reading::range_meaning))]
+#[tactic(auto, unfolding(crate::specs::inner::Reading::range_meaning))]
 pub fn read_addresses(text: &[u8]) -> Result<AddressItem, TextFault>
     ensures { result ≡ item_meaning text.now }
 {
@@ -34,6 +34,7 @@ pub fn read_addresses(text: &[u8]) -> Result<AddressItem, TextFault>
         return Ok(AddressItem::Any);
     }
     if let Some((address, length)) = split_once(text, b'/') {
+        #[tactic(auto, unfolding(crate::specs::inner::Reading::prefix_meaning))]
         return read_prefix(address, length);
     }
     match split_once(text, b'-') {

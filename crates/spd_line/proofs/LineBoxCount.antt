@@ -19,7 +19,7 @@ use Rattle.sel_text.specs.declared.port.PortItem.{PortItem}
 use Rattle.sel_text.specs.Item as item
 use Rattle.spd_line.specs.declared.line.LineParts.{LineParts}
 use Rattle.spd_line.specs.declared.line.ProtocolItem.{ProtocolItem}
-use Rattle.spd_line.specs.Families.{is_of}
+use Rattle.spd_line.specs.Families.{is_of_family}
 use Rattle.spd_line.specs.LineBoxes.{address_ranges, any_ranges, family_regions, field_ranges, line_box, line_boxes}
 use Rattle.spd_line.specs.LineBoxes.{line_ranges, line_regions, ordered_range, port_ranges, products, protocol_ranges}
 use Rattle.spd_line.specs.Selects.{has_direction}
@@ -46,7 +46,7 @@ ordered_range-counted first last = go (nat_le first last) refl
     go false is = record { few = omega arith; all = λ le. grind (arith, nat_tests) }
 
 address_ranges-counted : (family : Family) (of : AddressItem) →
-    Counted (item.AreAddressesInOrder of) (length (address_ranges family of)) (cond (is_of family of) 1 0)
+    Counted (item.AreAddressesInOrder of) (length (address_ranges family of)) (cond (is_of_family family of) 1 0)
 address_ranges-counted family AddressItem.Any = exactly _ _ _ refl
 address_ranges-counted Four (AddressItem.Range (Address.Four first) (Address.Four last)) = ordered_range-counted first last
 address_ranges-counted Six (AddressItem.Range (Address.Six first) (Address.Six last)) = ordered_range-counted first last
@@ -122,13 +122,13 @@ field_ranges-counted line =
 
 -- The addresses of a selector, of which each item has at most one range of the family.
 addresses-counted : (family : Family) (items : List AddressItem) →
-    Counted (All item.AreAddressesInOrder items) (length (flat_map (address_ranges family) items)) (count_by (is_of family) items)
+    Counted (All item.AreAddressesInOrder items) (length (flat_map (address_ranges family) items)) (count_by (is_of_family family) items)
 addresses-counted family items =
-    flat_map-counted item.AreAddressesInOrder (address_ranges family) (λ of. cond (is_of family of) 1 0) items (address_ranges-counted family)
+    flat_map-counted item.AreAddressesInOrder (address_ranges family) (λ of. cond (is_of_family family of) 1 0) items (address_ranges-counted family)
 
 line_ranges-counted : (family : Family) (line : LineParts) →
     Counted (AreInOrder line) (length (line_ranges family line))
-    (count_by (is_of family) line.local * (count_by (is_of family) line.remote * field_parts line))
+    (count_by (is_of_family family) line.local * (count_by (is_of_family family) line.remote * field_parts line))
 unfolding line_ranges
 line_ranges-counted family line =
     weaker _ _ _ _ (λ sound. (sound.local, (sound.remote, sound)))
@@ -141,7 +141,7 @@ line_regions-counted line =
     let all = length-append (family_regions Four line) (family_regions Six line) in
     let four_count = length-map (line_ranges Four line) (box_from Four) in
     let six_count = length-map (line_ranges Six line) (box_from Six) in
-    both (count_by (is_of Four) line.local) (count_by (is_of Four) line.remote) (count_by (is_of Six) line.local) (count_by (is_of Six) line.remote)
+    both (count_by (is_of_family Four) line.local) (count_by (is_of_family Four) line.remote) (count_by (is_of_family Six) line.local) (count_by (is_of_family Six) line.remote)
     (field_parts line) _ _ _ (line_ranges-counted Four line) (line_ranges-counted Six line) (all ∙ ap₂ (λ a b. a + b) four_count six_count)
   where
     both : (a b c d f four six all : ℕ) → Counted (AreInOrder line) four (a * (b * f)) → Counted (AreInOrder line) six (c * (d * f)) →

@@ -17,7 +17,7 @@ use Rattle.sel_text.specs.declared.item.AddressItem.{AddressItem}
 use Rattle.sel_text.specs.declared.port.PortItem.{PortItem}
 use Rattle.spd_line.specs.declared.line.LineParts.{LineParts}
 use Rattle.spd_line.specs.declared.line.ProtocolItem.{ProtocolItem}
-use Rattle.spd_line.specs.Families.{is_range_of}
+use Rattle.spd_line.specs.Families.{is_range_of_family}
 use Rattle.spd_line.specs.LineBoxes.{address_ranges, any_ranges, family_regions, field_ranges, line_box, line_boxes}
 use Rattle.spd_line.specs.LineBoxes.{line_ranges, line_regions, ordered_range, port_ranges, products, protocol_ranges}
 use Rattle.spd_line.proofs.ProductLaws.{list_any-and_left, list_any-flat_map, list_any-map, products-has}
@@ -48,7 +48,7 @@ any_ranges-has false opaque n within = whole_range-has opaque n within
 address_ranges-has : (family : Family) (address : ℕ) → nat_le address (last_address family) ≡ true →
     (item : AddressItem) → some_range address (address_ranges family item) ≡ address_has family address item
 address_ranges-has family address within AddressItem.Any = whole_range-has (last_address family) address within
-address_ranges-has family address within (AddressItem.Range first last) = go (is_range_of family first last)
+address_ranges-has family address within (AddressItem.Range first last) = go (is_range_of_family family first last)
   where
     go : (there : Bool) →
         some_range address (cond there (ordered_range (address_value first) (address_value last)) [])

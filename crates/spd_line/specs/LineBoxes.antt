@@ -19,7 +19,7 @@ use Rattle.spd_line.specs.declared.line_boxes.LineBox.{LineBox}
 use Rattle.spd_line.specs.declared.judgement.Judgement.{Judgement}
 use Rattle.spd_line.specs.declared.line.LineParts.{LineParts}
 use Rattle.spd_line.specs.declared.line.ProtocolItem.{ProtocolItem}
-use Rattle.spd_line.specs.Families.{is_range_of}
+use Rattle.spd_line.specs.Families.{is_range_of_family}
 use Rattle.spd_line.specs.Judged.{judged}
 use Rattle.spd_line.specs.Selects.{has_direction}
 
@@ -31,7 +31,7 @@ ordered_range first last = if nat_le first last then range_from first last ∷ [
 abbrev pub address_ranges : Family → AddressItem → List Range
 address_ranges family AddressItem.Any = whole_range (last_address family) ∷ []
 address_ranges family (AddressItem.Range first last) =
-    if is_range_of family first last then ordered_range (address_value first) (address_value last) else []
+    if is_range_of_family family first last then ordered_range (address_value first) (address_value last) else []
 
 -- ANY, with OPAQUE as its last number. Where it is flagged, its other numbers stand apart from OPAQUE,
 -- of which no packet has a value to populate from.

@@ -12,7 +12,7 @@ use Rattle.sel_text.specs.declared.port.PortItem.{PortItem}
 use Rattle.spd_line.specs.declared.line.LineParts.{LineParts}
 use Rattle.spd_line.specs.declared.line.ProtocolItem.{ProtocolItem}
 use Rattle.spd_line.specs.declared.line.Way.{Way}
-use Rattle.spd_line.specs.Families.{is_range_of}
+use Rattle.spd_line.specs.Families.{is_range_of_family}
 
 -- A line of that way is looked at in the direction.
 abbrev pub has_direction : Way → Direction → Bool
@@ -29,7 +29,7 @@ lies_in first last n = nat_le first n && nat_le n last
 abbrev pub address_has : Family → ℕ → AddressItem → Bool
 address_has _ _ AddressItem.Any = true
 address_has family a (AddressItem.Range first last) =
-    is_range_of family first last && lies_in (address_value first) (address_value last) a
+    is_range_of_family family first last && lies_in (address_value first) (address_value last) a
 
 -- The protocol item has the protocol: ANY has each and OPAQUE too.
 abbrev pub protocol_has : ProtocolItem → ℕ → Bool

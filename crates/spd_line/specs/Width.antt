@@ -8,11 +8,11 @@ use Rattle.sel_text.specs.Item as item
 use Rattle.sel_text.specs.Port as port
 use Rattle.spd_line.specs.declared.line.LineParts.{LineParts}
 use Rattle.spd_line.specs.declared.line.ProtocolItem.{ProtocolItem}
-use Rattle.spd_line.specs.Families.{is_of}
+use Rattle.spd_line.specs.Families.{is_of_family}
 
 -- The pairs of a local and a remote range of one family; ANY is a range of each.
 abbrev pub family_pairs : Family → LineParts → ℕ
-family_pairs family parts = count_by (is_of family) parts.local * count_by (is_of family) parts.remote
+family_pairs family parts = count_by (is_of_family family) parts.local * count_by (is_of_family family) parts.remote
 
 abbrev pub range_pairs : LineParts → ℕ
 range_pairs parts = family_pairs Four parts + family_pairs Six parts

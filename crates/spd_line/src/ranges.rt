@@ -6,7 +6,7 @@ ghost use Rattle.sel_text.specs.declared.item.AddressItem.{AddressItem};
 ghost use Rattle.spd_line.specs.LineBoxes.{address_ranges, any_ranges, port_ranges};
 ghost use Rattle.spd_line.specs.LineBoxes.{protocol_ranges};
 
-use crate::select::is_range_of;
+use crate::select::is_range_of_family;
 use crate::{Address, AddressItem, NoMemory, PortItem, ProtocolItem};
 use sel_region::{Axis, Field, Interval, Proto};
 use sel_text::Family;
@@ -106,7 +106,7 @@ fn range_between<A: Axis>(family: Family, first: Address, last: Address) -> Opti
     requires { A.LAST ≡ last_address family }
     ensures { option_to_list result ≡ address_ranges family (AddressItem.Range first last) }
 {
-    if is_range_of(family, first, last) {
+    if is_range_of_family(family, first, last) {
         Interval::new(first.value(), last.value())
     } else {
         None

@@ -1,6 +1,6 @@
 ghost use Rattle.std.specs.Prelude.{◌≡◌};
 ghost use Rattle.std.specs.List.{list_any};
-ghost use Rattle.spd_line.specs.Families.{is_range_of};
+ghost use Rattle.spd_line.specs.Families.{is_range_of_family};
 ghost use Rattle.spd_line.specs.Selects.{address_has, has_direction, lies_in, port_has};
 ghost use Rattle.spd_line.specs.Selects.{protocol_has, selects};
 
@@ -56,14 +56,15 @@ fn has_address(item: &AddressItem, family: Family, address: u128) -> bool
     match item {
         AddressItem::Any => true,
         AddressItem::Range { first, last } => {
-            is_range_of(family, *first, *last) && lies_between(first.value(), last.value(), address)
+            is_range_of_family(family, *first, *last)
+                && lies_between(first.value(), last.value(), address)
         }
     }
 }
 
 // Whether a range from one address to another is of the family.
-pub fn is_range_of(family: Family, first: Address, last: Address) -> bool
-    ensures { result ≡ is_range_of family first last }
+pub fn is_range_of_family(family: Family, first: Address, last: Address) -> bool
+    ensures { result ≡ is_range_of_family family first last }
 {
     family == first.family() && family == last.family()
 }
