@@ -1,6 +1,7 @@
 #!/usr/bin/env bash
-# Measures `judge` over a policy of 100 lines and a trace of a million packets, and then what reading
-# a policy of 4,096 lines takes, each on one processor. A benchmark, run by hand.
+# Measures `judge` over a policy of 100 lines and a trace of a million packets, into a file and into a
+# pipe, and before that what reading a policy of 4,096 lines takes, each on one processor. A
+# benchmark, run by hand.
 set -euo pipefail
 root=$(cd "$(dirname "$0")/.." && pwd)
 packets=${1:-1000000}
@@ -57,23 +58,33 @@ python3 - "$root/crates/audit_cli/out/audit_cli" "$work" "$packets" <<'PYTHON'
 import os, resource, subprocess, sys, time
 program, work, packets = sys.argv[1], sys.argv[2], int(sys.argv[3])
 
-def run(policy, trace):
+def run(policy, trace, out):
     """Seconds of a run."""
     start = time.monotonic()
-    with open(os.path.join(work, "out"), "wb") as out:
-        subprocess.run([program, "judge", policy, trace], cwd=work, stdout=out, check=True,
-                       preexec_fn=lambda: os.sched_setaffinity(0, {0}))
+    subprocess.run([program, "judge", policy, trace], cwd=work, stdout=out, check=True,
+                   preexec_fn=lambda: os.sched_setaffinity(0, {0}))
     return time.monotonic() - start
+
+def run_into_file(policy, trace):
+    with open(os.path.join(work, "out"), "wb") as out:
+        return run(policy, trace, out)
+
+def run_into_pipe(policy, trace):
+    with subprocess.Popen(["cat"], stdin=subprocess.PIPE, stdout=subprocess.DEVNULL) as reader:
+        return run(policy, trace, reader.stdin)
 
 def size(*names):
     return sum(os.path.getsize(os.path.join(work, name)) for name in names)
 
-seconds = run("whole.toml", "none.txt")
+seconds = run_into_file("whole.toml", "none.txt")
 print(f"policy of 4,096 lines, {size('whole.toml') / 1e6:.2f} MB, read in {seconds:.2f} s")
-seconds = run("policy.toml", "trace.txt")
+into_file = run_into_file("policy.toml", "trace.txt")
+into_pipe = run_into_pipe("policy.toml", "trace.txt")
 peak = resource.getrusage(resource.RUSAGE_CHILDREN).ru_maxrss * 1024
 files = size("policy.toml", "trace.txt")
 lines = sum(1 for _ in open(os.path.join(work, "out"), "rb"))
-print(f"{lines} verdicts of {packets} packets in {seconds:.2f} s: {packets / seconds:,.0f} packets a second")
+print(f"{lines} verdicts of {packets} packets")
+for end, seconds in ("file", into_file), ("pipe", into_pipe):
+    print(f"into a {end} in {seconds:.2f} s: {packets / seconds:,.0f} packets a second")
 print(f"peak memory {peak / 1e6:.1f} MB, files {files / 1e6:.1f} MB, {peak / files:.2f} times")
 PYTHON

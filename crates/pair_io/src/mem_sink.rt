@@ -35,9 +35,11 @@ impl Model for MemSink {
 
 impl MemSink {
     ghost use Rattle.pair_io.specs.MemSink.{HeldText};
+    ghost use Rattle.pair_io.specs.Counts.{one_more, is_listed};
 
-    /// An empty sink with room for so many bytes, whose memory it takes here. A call of `put` fails
-    /// where its number, from 1, is in `failing`, or where the piece is longer than the room left.
+    /// An empty sink with room for so many bytes, whose memory it takes here. A call of `put` or
+    /// `flush` fails where its number, from 1, is in `failing`, and one of `put` also where the
+    /// piece is longer than the room left.
     pub fn new(alloc: Global, room: usize, failing: NumberList) -> Result<Self, NoMemory>
         ensures { IfOk result (λ sink. sink ≡ record {
           written = [];
@@ -62,6 +64,23 @@ impl MemSink {
         ensures told { ⟦<MemSink as Sink>⟧.told self.now ≡ Some result.now }
     {
         self.written.as_slice()
+    }
+
+    // Counts a call, and says whether it is one that is to fail.
+    fn begin_call(&mut self) -> bool
+        ensures listed { result ≡ is_listed (one_more self.old.calls) self.old.failing }
+        ensures counted { self.new ≡ record self.old { calls = one_more self.old.calls } }
+    {
+        self.calls = one_more(self.calls);
+        self.failing.as_slice().contains(&self.calls)
+    }
+
+    // Counts a fault.
+    fn fail(&mut self) -> Failed
+        ensures { self.new ≡ record self.old { faults = one_more self.old.faults } }
+    {
+        self.faults = one_more(self.faults);
+        Failed
     }
 }
 
@@ -88,13 +107,27 @@ impl Sink for MemSink {
           faults = one_more self.old.faults;
         }) }
     {
-        self.calls = one_more(self.calls);
-        let is_listed = self.failing.as_slice().contains(&self.calls);
-        if is_listed || piece.len() > self.room - self.written.len() {
-            self.faults = one_more(self.faults);
-            return Err(Failed);
+        if self.begin_call() || piece.len() > self.room - self.written.len() {
+            return Err(self.fail());
         }
         self.written.extend_from_slice(piece).unwrap();
         Ok(piece.len())
+    }
+
+    /// Holds nothing back, so there is nothing to hand on. Fails where the call is listed.
+    fn flush(&mut self) -> Result<(), Failed>
+        ensures fails { is_err result ≡ is_listed (one_more self.old.calls) self.old.failing }
+        ensures ok { OnOk result (self.new ≡ record self.old {
+          calls = one_more self.old.calls;
+        }) }
+        ensures err { OnErr result (self.new ≡ record self.old {
+          calls = one_more self.old.calls;
+          faults = one_more self.old.faults;
+        }) }
+    {
+        if self.begin_call() {
+            return Err(self.fail());
+        }
+        Ok(())
     }
 }

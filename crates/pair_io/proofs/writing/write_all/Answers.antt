@@ -1,4 +1,4 @@
-use Rattle.std.proofs.Common.{take, drop, sym, arith}
+use Rattle.std.proofs.Common.{take, drop, sym, ◌∙◌}
 use Rattle.std.proofs.lemmas.List.{take_rest, take-append-drop}
 use Rattle.pair_io.proofs.Gains.{GainsSoFar-more}
 use Rattle.pair_io.proofs.writing.write_all.Goals as goal
@@ -11,5 +11,5 @@ loop-rest-preserved g c =
     let written = c.in_ok-count.ensures.written in
     record {
       sent = rw take_rest (GainsSoFar-more (take count rest) (drop count rest) splits c.loop-rest.invariant.sent written);
-      faults = omega arith;
+      faults = c.in_ok-count.ensures.no_fault ∙ c.loop-rest.invariant.faults;
     }
