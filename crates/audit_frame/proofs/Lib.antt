@@ -1,0 +1,4 @@
+pub mod Done
+pub mod Lines
+pub mod Onward
+pub mod Runs

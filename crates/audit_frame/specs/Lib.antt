@@ -1,0 +1,6 @@
+pub mod Answer
+pub mod Causes
+pub mod Ends
+pub mod Loading
+pub mod Runs
+pub mod Words
