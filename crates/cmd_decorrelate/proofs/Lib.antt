@@ -1,0 +1,3 @@
+pub mod Decorrelated
+pub mod Stages
+pub mod Views

@@ -1,0 +1,2 @@
+pub mod Decorrelate
+pub mod Headline
