@@ -24,7 +24,7 @@ fn words<R: Env + AllocGlobal>(rt: &R) -> Result<WordList, Outcome> {
 
 fn main(rt: HostRuntime) -> ExitCode {
     let mut files = RealFiles::new(&rt);
-    let mut out = RealSink::new(rt.stdout());
+    let mut out = RealSink::in_blocks(rt.stdout());
     let mut err = RealSink::new(rt.stderr());
     let outcome = match words(&rt) {
         Ok(words) => audit_top::run(rt.alloc(), &words, &mut files, &mut out, &mut err),

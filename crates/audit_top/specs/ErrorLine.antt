@@ -6,7 +6,7 @@ use Rattle.spd_file.specs.Fault.{policy_fault_text}
 use Rattle.spd_text.specs.DirectionText.{direction_text}
 use Rattle.trace_text.specs.Fault.{event_fault_text}
 use Rattle.audit_top.specs.declared.outcome.Outcome.{Outcome}
-use Rattle.audit_top.specs.declared.outcome.TraceFault.{TraceFault}
+use Rattle.cmd_judge.specs.declared.command.TraceFault.{TraceFault}
 
 -- A refusal of the file that a word names.
 abbrev pub word_line : ℕ → List ℕ → List ℕ

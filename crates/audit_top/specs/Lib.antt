@@ -1,13 +1,4 @@
-pub mod Answer
-pub mod Decorrelate
-pub mod Ends
+pub mod Command
 pub mod ErrorLine
-pub mod Judge
-pub mod Loading
 pub mod Outcome
-pub mod PolicyFile
-pub mod Run
-pub mod VerdictLine
-pub mod ViewLine
-pub mod Words
-pub mod Writing
+pub mod Reports

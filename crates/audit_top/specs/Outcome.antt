@@ -1,6 +1,32 @@
 -- How a run ends.
-use Rattle.std.specs.Prelude.{ℕ}
+use Rattle.std.specs.Prelude.{ℕ, Result, Ok, Err}
+use Rattle.audit_frame.specs.declared.refusal.Refusal.{Refusal}
+use Rattle.cmd_judge.specs.declared.command.JudgeEnd.{JudgeEnd}
 use Rattle.audit_top.specs.declared.outcome.Outcome.{Outcome}
+
+-- The outcome of a refusal that any command may have.
+abbrev pub refused : Refusal → Outcome
+refused (Refusal.PolicyFault word fault) = Outcome.PolicyFault word fault
+refused (Refusal.TooLong word) = Outcome.TooLong word
+refused (Refusal.EntryLimit word direction line at) = Outcome.EntryLimit word direction line at
+refused (Refusal.ReadFault word) = Outcome.ReadFault word
+refused Refusal.WriteFault = Outcome.WriteFault
+refused Refusal.NoMemory = Outcome.NoMemory
+
+-- The other way round: such a refusal, or an end that is some command's own.
+abbrev pub ended_by : Outcome → Result Outcome Refusal
+ended_by (Outcome.PolicyFault word fault) = Err (Refusal.PolicyFault word fault)
+ended_by (Outcome.TooLong word) = Err (Refusal.TooLong word)
+ended_by (Outcome.EntryLimit word direction line at) = Err (Refusal.EntryLimit word direction line at)
+ended_by (Outcome.ReadFault word) = Err (Refusal.ReadFault word)
+ended_by Outcome.WriteFault = Err Refusal.WriteFault
+ended_by Outcome.NoMemory = Err Refusal.NoMemory
+ended_by outcome = Ok outcome
+
+-- The outcome of an end of `judge`.
+abbrev pub judged : JudgeEnd → Outcome
+judged JudgeEnd.Done = Outcome.Done
+judged (JudgeEnd.TraceFault line fault) = Outcome.TraceFault line fault
 
 -- The exit status of each outcome.
 abbrev pub status_of : Outcome → ℕ

@@ -1,5 +1,5 @@
 ghost use Rattle.std.specs.Prelude.{◌≡◌, ◌≤◌, length, map, option_map};
-ghost use Rattle.audit_top.specs.Answer.{text_of};
+ghost use Rattle.audit_frame.specs.Answer.{text_of};
 ghost use Rattle.audit_top.specs.ErrorLine.{error_line, limit_line, policy_line, trace_line};
 ghost use Rattle.audit_top.specs.ErrorLine.{word_line};
 

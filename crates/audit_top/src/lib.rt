@@ -2,17 +2,13 @@
 //! it writes and the outcome that it ends with.
 #![tactic(auto)]
 
-pub use outcome::{Outcome, TraceFault, status};
+pub use cmd_judge::TraceFault;
+pub use outcome::{Outcome, status};
 pub use running::{report, run};
 
-mod decorrelating;
+mod command;
 mod error_line;
-mod files;
-mod judging;
 mod outcome;
-mod policy_file;
 mod running;
 #[cfg(test)]
 mod tests;
-mod verdict_line;
-mod view_line;

@@ -1,19 +1,11 @@
 ghost use Rattle.std.specs.Prelude.{◌≡◌};
 ghost use Rattle.audit_top.specs.Outcome.{status_of};
 
-use pair_io::{Failed, NoMemory};
+use audit_frame::Refusal;
+use cmd_judge::{JudgeEnd, TraceFault};
+use pair_io::NoMemory;
 use sel_box::Direction;
 use spd_file::PolicyFault;
-use trace_text::EventFault;
-
-/// Why a trace line is refused.
-#[derive(Clone, Copy, Debug, PartialEq, Eq)]
-pub enum TraceFault {
-    /// Its text is.
-    Text(EventFault),
-    /// It is another event than a packet, which `judge` doesn't take.
-    OnlyPackets,
-}
 
 /// How a run ended. Words are counted from 1, the command being the first.
 #[derive(Clone, Copy, Debug, PartialEq, Eq)]
@@ -66,14 +58,45 @@ impl From<NoMemory> for Outcome {
     }
 }
 
-impl From<Failed> for Outcome {
+impl From<Refusal> for Outcome {
     ghost use Rattle.std.specs.Prelude.{◌≡◌};
-    ghost use Rattle.audit_top.specs.declared.outcome.Outcome.{Outcome};
+    ghost use Rattle.audit_top.specs.Outcome.{refused};
 
-    ghost from_gives = { λ _ outcome. outcome ≡ Outcome.WriteFault };
+    ghost from_gives = { λ refusal outcome. outcome ≡ refused refusal };
 
-    fn from(_: Failed) -> Outcome {
-        Outcome::WriteFault
+    fn from(refusal: Refusal) -> Outcome {
+        match refusal {
+            Refusal::PolicyFault { word, fault } => Outcome::PolicyFault { word, fault },
+            Refusal::TooLong { word } => Outcome::TooLong { word },
+            Refusal::EntryLimit {
+                word,
+                direction,
+                line,
+                at,
+            } => Outcome::EntryLimit {
+                word,
+                direction,
+                line,
+                at,
+            },
+            Refusal::ReadFault { word } => Outcome::ReadFault { word },
+            Refusal::WriteFault => Outcome::WriteFault,
+            Refusal::NoMemory => Outcome::NoMemory,
+        }
+    }
+}
+
+impl From<JudgeEnd> for Outcome {
+    ghost use Rattle.std.specs.Prelude.{◌≡◌};
+    ghost use Rattle.audit_top.specs.Outcome.{judged};
+
+    ghost from_gives = { λ end outcome. outcome ≡ judged end };
+
+    fn from(end: JudgeEnd) -> Outcome {
+        match end {
+            JudgeEnd::Done => Outcome::Done,
+            JudgeEnd::TraceFault { line, fault } => Outcome::TraceFault { line, fault },
+        }
     }
 }
 

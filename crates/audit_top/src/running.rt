@@ -1,9 +1,14 @@
-ghost use Rattle.std.specs.Prelude.{◌≡◌, ◌↔◌, false};
-ghost use Rattle.audit_top.specs.Ends.{counts, Causes, Ends, Leaves};
-ghost use Rattle.audit_top.specs.Run.{answer_of, is_command, limits_of, Reports};
+ghost use Rattle.std.specs.Prelude.{◌≡◌, ◌↔◌, IfSome, None};
+ghost use Rattle.audit_frame.specs.Causes.{reads};
+ghost use Rattle.audit_frame.specs.Runs.{Runs};
+ghost use Rattle.audit_top.specs.Command.{Means, answer_of, command_in, files_of};
+ghost use Rattle.audit_top.specs.Outcome.{ended_by};
+ghost use Rattle.audit_top.specs.Reports.{Reports};
+ghost use Rattle.audit_top.specs.declared.outcome.Outcome.{Outcome};
 
+use crate::Outcome;
+use crate::command::Command;
 use crate::error_line::error_line_of;
-use crate::{Outcome, decorrelating, judging};
 use pair_io::{Files, Sink, WordList, write_all};
 use std::alloc::Global;
 
@@ -17,13 +22,11 @@ use std::alloc::Global;
 /// Where the files tell their contents, the outcome and the text on `out` are the command's answer.
 /// A run that ends out of memory or at a write leaves a prefix of that text, and one that ends at
 /// a read whole lines of it; other refusals come before anything is written, or after the lines
-/// before their place. Each line goes to `write_all` once, whole. For an outcome that is a refusal
-/// one line is put to `err`, without memory; where that fails, the outcome stays.
+/// before their place. Each line goes to `write_all` once, whole, and `out` is flushed at the end.
+/// For an outcome that is a refusal one line is put to `err`, without memory; where that fails, the
+/// outcome stays.
 ///
-/// Loads each file whole, in one pass. `judge` takes time by the number of packets and of lines
-/// before their first. `decorrelate` takes time by the number of boxes of the policy times the
-/// pieces that each is in when the earlier ones are cut from it, at most LIMIT, and memory by
-/// LIMIT.
+/// Each command says its cost: `cmd_judge::Judge::run`, `cmd_decorrelate::Decorrelate::run`.
 pub fn run<F: Files, O: Sink, E: Sink>(
     alloc: Global,
     words: &WordList,
@@ -31,19 +34,22 @@ pub fn run<F: Files, O: Sink, E: Sink>(
     out: &mut O,
     err: &mut E,
 ) -> Outcome
-    // The answer, where what it needs is told.
-    ensures ends { Ends (answer_of (F.told files.old) words.now)
-        (O.told out.old) (O.told out.new) result }
+    // The words are no command's.
+    ensures usage { command_in words.now ≡ None ↔ result ≡ Outcome.Usage }
 
-    // The causes of the refusals that come from outside.
-    ensures usage { is_command words.now ≡ false → result ≡ Outcome.Usage }
-    ensures causes { Causes (is_command words.now) (limits_of words.now) words.now
-        (counts (F.faults files.old) (F.taken files.old) (F.end files.old) (O.faults out.old))
-        (counts (F.faults files.new) (F.taken files.new) (F.end files.new) (O.faults out.new))
-        result }
+    // The answer of the command where its files tell their contents, and the cause of each refusal.
+    ensures runs { IfSome (command_in words.now) (λ command.
+        Runs (answer_of (F.told files.old) command) (files_of command) (F.told files.old)
+        (reads (F.faults files.old) (F.taken files.old) (F.end files.old))
+        (reads (F.faults files.new) (F.taken files.new) (F.end files.new))
+        (O.faults out.old) (O.faults out.new) (O.told out.old) (O.told out.new)
+        (ended_by result)) }
 
-    // What these refusals leave, and what is reported.
-    ensures leaves { Leaves (O.told out.old) (O.told out.new) result }
+    // What that answer comes to, said of packets.
+    ensures means { IfSome (command_in words.now)
+        (Means (F.told files.old) (O.told out.old) (O.told out.new) result) }
+
+    // What is reported.
     ensures reports { Reports result
         (E.told err.old) (E.told err.new) (E.faults err.old) (E.faults err.new) }
 {
@@ -58,21 +64,25 @@ fn perform<F: Files, O: Sink>(
     files: &mut F,
     out: &mut O,
 ) -> Outcome
-    ensures ends { Ends (answer_of (F.told files.old) words.now)
-        (O.told out.old) (O.told out.new) result }
-    ensures usage { is_command words.now ≡ false → result ≡ Outcome.Usage }
-    ensures causes { Causes (is_command words.now) (limits_of words.now) words.now
-        (counts (F.faults files.old) (F.taken files.old) (F.end files.old) (O.faults out.old))
-        (counts (F.faults files.new) (F.taken files.new) (F.end files.new) (O.faults out.new))
-        result }
-    ensures leaves { Leaves (O.told out.old) (O.told out.new) result }
+    ensures usage { command_in words.now ≡ None ↔ result ≡ Outcome.Usage }
+    ensures runs { IfSome (command_in words.now) (λ command.
+        Runs (answer_of (F.told files.old) command) (files_of command) (F.told files.old)
+        (reads (F.faults files.old) (F.taken files.old) (F.end files.old))
+        (reads (F.faults files.new) (F.taken files.new) (F.end files.new))
+        (O.faults out.old) (O.faults out.new) (O.told out.old) (O.told out.new)
+        (ended_by result)) }
+    ensures means { IfSome (command_in words.now)
+        (Means (F.told files.old) (O.told out.old) (O.told out.new) result) }
 {
-    if judging::is_form(words) {
-        judging::judge(alloc, words, files, out)
-    } else if decorrelating::is_form(words) {
-        decorrelating::decorrelate(alloc, words, files, out)
-    } else {
-        Outcome::Usage
+    match Command::from_words(words) {
+        Some(command) => {
+            let outcome = command.run(alloc, files, out);
+            match out.flush() {
+                Ok(()) => outcome,
+                Err(_) => Outcome::WriteFault,
+            }
+        }
+        None => Outcome::Usage,
     }
 }
 

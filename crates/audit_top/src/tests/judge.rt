@@ -42,6 +42,11 @@ $ judge lan both ! write 2
 1 bypass lan
 error: cannot write
 = 7
+$ judge lan both ! write 3
+1 bypass lan
+2 discard final
+error: cannot write
+= 7
 $ judge lan both ! read 2
 error: word 2: cannot read
 = 6

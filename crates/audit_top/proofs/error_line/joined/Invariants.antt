@@ -1,5 +1,5 @@
 use Rattle.std.proofs.Common.{◌≡◌, ◌++◌, drop, map}
-use Rattle.audit_top.specs.Answer.{text_of}
+use Rattle.audit_frame.specs.Answer.{text_of}
 use Rattle.audit_top.proofs.error_line.joined.Given as goal
 
 abbrev pub invariant-loop-part : goal.invariant-loop-part

@@ -1,0 +1,60 @@
+ghost use Rattle.std.specs.Prelude.{◌≡◌, ◌≢◌};
+ghost use Rattle.audit_frame.specs.Causes.{reads};
+ghost use Rattle.audit_frame.specs.Runs.{Runs};
+ghost use Rattle.audit_top.specs.Command.{Means, answer_of, command_in, files_of};
+ghost use Rattle.audit_top.specs.Outcome.{ended_by};
+ghost use Rattle.audit_top.specs.declared.outcome.Outcome.{Outcome};
+
+use crate::Outcome;
+use cmd_decorrelate::Decorrelate;
+use cmd_judge::Judge;
+use pair_io::{Files, Sink, WordList};
+use std::alloc::Global;
+
+// A command with its words.
+#[derive(Debug, Drop)]
+pub enum Command<'a> {
+    Judge(Judge<'a>),
+    Decorrelate(Decorrelate<'a>),
+}
+
+impl<'a> Command<'a> {
+    // The command that the words are.
+    pub fn from_words(words: &'a WordList) -> Option<Self>
+        ensures { result ≡ command_in words.now }
+    {
+        if let Some(judge) = Judge::from_words(words) {
+            return Some(Command::Judge(judge));
+        }
+        Decorrelate::from_words(words).map(Command::Decorrelate)
+    }
+
+    // Runs the command.
+    pub fn run<F: Files, O: Sink>(&self, alloc: Global, files: &mut F, out: &mut O) -> Outcome
+        ensures runs { Runs (answer_of (F.told files.old) self.now) (files_of self.now)
+            (F.told files.old)
+            (reads (F.faults files.old) (F.taken files.old) (F.end files.old))
+            (reads (F.faults files.new) (F.taken files.new) (F.end files.new))
+            (O.faults out.old) (O.faults out.new) (O.told out.old) (O.told out.new)
+            (ended_by result) }
+        ensures own { result ≢ Outcome.Usage }
+        ensures means { Means (F.told files.old) (O.told out.old) (O.told out.new) result self.now }
+    {
+        match self {
+            Command::Judge(judge) => {
+                cmd_judge::laws::each_packet_is_judged();
+                match judge.run(alloc, files, out) {
+                    Ok(end) => Outcome::from(end),
+                    Err(refusal) => Outcome::from(refusal),
+                }
+            }
+            Command::Decorrelate(decorrelate) => {
+                cmd_decorrelate::laws::views_stand_for_the_policy();
+                match decorrelate.run(alloc, files, out) {
+                    Ok(()) => Outcome::Done,
+                    Err(refusal) => Outcome::from(refusal),
+                }
+            }
+        }
+    }
+}
