@@ -19,7 +19,7 @@ use Rattle.cmd_decorrelate.specs.declared.command.Decorrelate.{Decorrelate}
 use Rattle.cmd_decorrelate.specs.Decorrelate.{by_lines, decorrelate_answer, decorrelate_files, lines_answer, views_answer}
 
 -- The file of the policy is one that the run reads.
-pub is_known : (command : Decorrelate) → Contains (decorrelate_files command) (policy_file command.policy)
+is_known : (command : Decorrelate) → Contains (decorrelate_files command) (policy_file command.policy)
 is_known command = (0, lit< tt, refl)
 
 -- What follows on the lines of the policy is what follows on its file.

@@ -1,25 +1,8 @@
 use Rattle.std.proofs.Common.{refl, ◌∙◌}
 use Rattle.std.proofs.lemmas.Result.{err_from_is_err_and}
-use Rattle.audit_frame.proofs.Runs.{Runs-unread, Runs-unwritten, Runs-within, Runs-written}
-use Rattle.cmd_decorrelate.specs.Decorrelate.{by_lines, decorrelate_files}
-use Rattle.cmd_decorrelate.proofs.Stages.{is_known, Runs-entries, Runs-lines, Runs-over_limit}
+use Rattle.audit_frame.proofs.Runs.{Runs-unwritten, Runs-within, Runs-written}
+use Rattle.cmd_decorrelate.proofs.Stages.{Runs-entries, Runs-lines, Runs-over_limit}
 use Rattle.cmd_decorrelate.proofs.command.Decorrelate.run.Goals as goal
-
-pub returns-in_err-lines : goal.returns-in_err-lines
-returns-in_err-lines g c =
-    let p = err_from_is_err_and c.from_residual.result c.from_residual.ensures.1 in
-    let command = c.args.self.now in
-    rw (p.1, p.2)
-    (Runs-unread (by_lines command.policy.word command.limit) (decorrelate_files command) (g.F.Files.told c.args.files.now)
-    command.policy _ _ _ _ _ (is_known command) c.in_err-lines.ensures.refused)
-
-pub returns-in_err-outbound : goal.returns-in_err-outbound
-returns-in_err-outbound g c =
-    let p = err_from_is_err_and c.from_residual-in_err-outbound.result c.from_residual-in_err-outbound.ensures.1 in
-    let lines = c.in_ok-lines.ensures in
-    rw (p.1, p.2)
-    (Runs-lines c.args.self.now c.in_ok-lines.lines (g.F.Files.told c.args.files.now) _ _ _ _ _ _ _ lines.within lines.lines lines.faults lines.taken
-    (Runs-over_limit c.args.self.now _ c.in_ok-lines.lines _ _ _ _ _ _ _ _ c.word-word.ensures c.in_err-outbound.ensures.refused))
 
 pub returns-in_err-inbound : goal.returns-in_err-inbound
 returns-in_err-inbound g c =
