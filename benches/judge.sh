@@ -1,6 +1,6 @@
 #!/usr/bin/env bash
-# Measures `judge` over a policy of 100 lines and a trace of a million packets, into a file and into a
-# pipe, and before that what reading a policy of 4,096 lines takes, each on one processor. A
+# Measures `judge` over a policy of 100 lines and a trace of a million packets, into a file and into
+# a pipe, and before that what reading a policy of 4,096 lines takes, each on one processor. A
 # benchmark, run by hand.
 set -euo pipefail
 root=$(cd "$(dirname "$0")/.." && pwd)
