@@ -23,12 +23,15 @@ mod files;
 mod loading;
 mod mem_files;
 mod mem_sink;
+mod opened_file;
+mod opened_files;
 mod real_files;
 mod real_sink;
 mod sink;
 #[cfg(test)]
 mod tests;
 mod text;
+mod way;
 mod writing;
 
 /// Bytes, as a file holds them. A contract sees the list of the bytes.

@@ -1,6 +1,6 @@
 ghost use Rattle.std.specs.Prelude.{◌≡◌, ◌≤◌, ◌<◌, [], length, take, Ok, OnOk, OnErr, IfOk};
 ghost use Rattle.std.specs.Prelude.{cond, is_err};
-ghost use Rattle.std.specs.Io.KnownBytes.{Appends, append_known};
+ghost use Rattle.std.specs.Io.KnownBytes.{Appends, WriteAppends, append_known};
 ghost use Rattle.pair_io.specs.Counts.{one_more};
 
 use crate::counts::one_more;
@@ -85,12 +85,26 @@ fn write_some<W: Write>(writer: &mut W, piece: &[u8]) -> io::Result<usize>
     ensures written { IfOk result (λ n.
         Appends (W.contents writer.old) (W.contents writer.new) (take n piece.now)) }
 {
-    let count = writer.write(piece)?;
+    let count = write_once(writer, piece)?;
     if count == 0 && !piece.is_empty() {
         return Err(io::Error::from(ErrorKind::WriteZero));
     }
     writer.flush()?;
     Ok(count)
+}
+
+// Writes the first bytes of a piece, and tries again where a signal interrupted it.
+fn write_once<W: Write>(writer: &mut W, piece: &[u8]) -> io::Result<usize>
+    ensures bound { IfOk result (λ n. n ≤ length piece.now) }
+    ensures bytes { WriteAppends (W.contents writer.old) (W.contents writer.new) result piece.now }
+{
+    for _ in 0..u32::MAX {
+        match writer.write(piece) {
+            Err(error) if error.kind() == ErrorKind::Interrupted => {}
+            answer => return answer,
+        }
+    }
+    Err(io::Error::from(ErrorKind::Interrupted))
 }
 
 // Writes all that waits and flushes it. Nothing waits afterwards, also where the writer failed.
