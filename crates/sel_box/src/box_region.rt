@@ -39,6 +39,15 @@ impl Region for AnyBox {
     }
 
     #[inline]
+    fn meets(&self, other: &Self) -> bool {
+        match (self, other) {
+            (AnyBox::Four(ranges), AnyBox::Four(others)) => ranges.meets(others),
+            (AnyBox::Six(ranges), AnyBox::Six(others)) => ranges.meets(others),
+            _ => false,
+        }
+    }
+
+    #[inline]
     fn meet(&self, other: &Self) -> Option<Self> {
         match (self, other) {
             (AnyBox::Four(ranges), AnyBox::Four(others)) => Some(AnyBox::Four(ranges.meet(

@@ -43,6 +43,10 @@ range_meet a b =
 abbrev pub range_within : Range → Range → Bool
 range_within a b = nat_le b.low a.low && nat_le (high_of a) (high_of b)
 
+-- from the lesser low to the greater high: the numbers of both, and those between them
+abbrev pub range_hull : Range → Range → Range
+range_hull a b = range_from (min a.low b.low) (max (high_of a) (high_of b))
+
 -- the numbers of a below b, where there are some
 abbrev pub piece_below : Range → Range → List Range
 piece_below a b = if nat_lt a.low b.low then range_from a.low (b.low - 1) ∷ [] else []

@@ -34,6 +34,11 @@ abbrev pub pair_within : {R S : Type 0} → (R → R → Bool) → (S → S → 
 pair_within within_first within_second a b =
     within_first a.first b.first && within_second a.second b.second
 
+-- the pair of the hulls of both parts
+abbrev pub pair_hull : {R S : Type 0} → (R → R → R) → (S → S → S) → Pair R S → Pair R S → Pair R S
+pair_hull hull_first hull_second a b =
+    pair_of (hull_first a.first b.first) (hull_second a.second b.second)
+
 -- the pieces on the first part: each that is left of it, with the whole second part
 abbrev pub pieces_on_first : {R S : Type 0} → (R → R → List R) → Pair R S → Pair R S → List (Pair R S)
 pieces_on_first minus_first a b = map (λ piece. pair_of piece a.second) (minus_first a.first b.first)

@@ -56,3 +56,9 @@ pub record IsRegion {R P : Type 0} (has : R → P → Bool) (at_most : P → P �
   pub minus_hits : (a b : R) (p : P) → hits has (minus a b) p ≡ one_if (has a p && not (has b p))
   -- a region that doesn't meet the other is its own only piece
   pub minus_alone : (a b : R) → IsNone (meet a b) → minus a b ≡ a ∷ []
+
+-- the laws of the hull of two regions: both are within it, and it is within each region that both are within
+pub record IsHull {R : Type 0} (within : R → R → Bool) (hull : R → R → R) : Type 0 where
+  pub first : (a b : R) → within a (hull a b) ≡ true
+  pub second : (a b : R) → within b (hull a b) ≡ true
+  pub least : (a b c : R) → within a c ≡ true → within b c ≡ true → within (hull a b) c ≡ true

@@ -2,3 +2,4 @@
 pub mod RegionLemmas
 pub mod IntervalLaws
 pub mod PairLaws
+pub mod HullLaws

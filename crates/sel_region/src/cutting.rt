@@ -50,7 +50,7 @@ pub fn cut_all<R: Region>(
 fn first_met<R: Region>(pieces: &[R], region: &R) -> Option<usize>
     ensures { result ≡ position (λ piece. is_some (R.meet piece region.now)) pieces.now }
 {
-    pieces.iter().position(|piece| piece.meet(region).is_some())
+    pieces.iter().position(|piece| piece.meets(region))
 }
 
 // Cuts the pieces from an index on.

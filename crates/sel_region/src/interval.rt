@@ -2,6 +2,7 @@ ghost use Rattle.std.specs.Prelude.{◌≡◌, ◌≤◌};
 ghost use Rattle.sel_region.specs.Interval.{high_of, range_from, range_on};
 
 use crate::axis::Axis;
+use crate::hull::Hull;
 use crate::region::{Frame, Region};
 use lists::NoMemory;
 use std::marker::{Model, PhantomData};
@@ -113,6 +114,11 @@ impl<A: Axis> Region for Interval<A> {
     }
 
     #[inline]
+    fn meets(&self, other: &Self) -> bool {
+        self.low <= other.high && other.low <= self.high
+    }
+
+    #[inline]
     fn meet(&self, other: &Self) -> Option<Self> {
         let low = self.low.max(other.low);
         let high = self.high.min(other.high);
@@ -150,5 +156,19 @@ impl<A: Axis> Region for Interval<A> {
             pieces.push(frame.around(Interval::between(other.high + 1, self.high)))?;
         }
         Ok(())
+    }
+}
+
+impl<A: Axis> Hull for Interval<A> {
+    ghost use Rattle.sel_region.specs.Interval.{range_hull};
+    ghost use Rattle.sel_region.specs.laws.HullLaws.{range_hull_laws};
+
+    ghost hull = { range_hull };
+
+    ghost hull_laws = { range_hull_laws };
+
+    #[inline]
+    fn hull(&self, other: &Self) -> Self {
+        Interval::between(self.low.min(other.low), self.high.max(other.high))
     }
 }

@@ -6,6 +6,7 @@
 
 pub use axis::{Axis, Field, Proto, V4, V6};
 pub use cutting::{cut_all, cut_each};
+pub use hull::Hull;
 pub use interval::Interval;
 pub use lists::NoMemory;
 pub use pair::Pair;
@@ -13,6 +14,7 @@ pub use region::{Frame, Region};
 
 mod axis;
 mod cutting;
+mod hull;
 mod interval;
 pub mod laws;
 mod pair;

@@ -1,3 +1,4 @@
+use crate::hull::Hull;
 use crate::region::{Frame, Region};
 use lists::NoMemory;
 
@@ -40,6 +41,11 @@ impl<R: Region, S: Region> Region for Pair<R, S> {
     }
 
     #[inline]
+    fn meets(&self, other: &Self) -> bool {
+        self.first.meets(&other.first) && self.second.meets(&other.second)
+    }
+
+    #[inline]
     fn meet(&self, other: &Self) -> Option<Self> {
         let first = self.first.meet(&other.first)?;
         let second = self.second.meet(&other.second)?;
@@ -69,6 +75,23 @@ impl<R: Region, S: Region> Region for Pair<R, S> {
             .minus_in(&other.first, BesideSecond { second, frame }, pieces)?;
         self.second
             .minus_in(&other.second, BesideFirst { first, frame }, pieces)
+    }
+}
+
+impl<R: Hull, S: Hull> Hull for Pair<R, S> {
+    ghost use Rattle.sel_region.specs.Pair.{pair_hull};
+    ghost use Rattle.sel_region.specs.laws.HullLaws.{pair_hull_laws};
+
+    ghost hull = { pair_hull R.hull S.hull };
+
+    ghost hull_laws = { pair_hull_laws R.hull_laws S.hull_laws };
+
+    #[inline]
+    fn hull(&self, other: &Self) -> Self {
+        Pair {
+            first: self.first.hull(&other.first),
+            second: self.second.hull(&other.second),
+        }
     }
 }
 

@@ -1,5 +1,6 @@
 ghost use Rattle.std.specs.Prelude.{◌≡◌, ◌++◌, List, Bool, Option, IsSome, OnOk, OnErr};
 ghost use Rattle.std.specs.Prelude.{length, map, take};
+ghost use Rattle.std.specs.Option.{is_some};
 ghost use Rattle.sel_region.specs.Region.{IsRegion};
 
 use lists::NoMemory;
@@ -59,6 +60,10 @@ pub trait Region: Copy {
     fn has(&self, point: &Self::Point) -> bool
         ensures { result ≡ has self.now point.now };
 
+    /// Whether some point is in both.
+    fn meets(&self, other: &Self) -> bool
+        ensures { result ≡ is_some (meet self.now other.now) };
+
     /// The region of the points that are in both; `None` exactly where there are none.
     fn meet(&self, other: &Self) -> Option<Self>
         ensures { result ≡ meet self.now other.now };
@@ -102,7 +107,7 @@ pub trait Region: Copy {
             (pieces.new.items ≡ pieces.old.items ++ minus self.now other.now) }
         ensures err { OnErr result (pieces.new.items ≡ pieces.old.items) }
     {
-        if self.meet(other).is_none() {
+        if !self.meets(other) {
             pieces.push(*self)?;
             return Ok(());
         }
