@@ -28,7 +28,9 @@ pub enum AnyBox {
     Six(Box6),
 }
 
-const _: () = prove!(size_of::<AnyBox>() <= 176);
+const _: () = prove!(size_of::<Box4>() <= 40);
+
+const _: () = prove!(size_of::<AnyBox>() <= 112);
 
 /// The five selectors, in the order in which boxes have them.
 #[derive(Clone, Copy, Debug, PartialEq, Eq, PartialOrd, Ord, Hash)]

@@ -47,8 +47,8 @@ impl ClassRow {
     }
 }
 
-/// The classes of protocols: rows that partition the numbers from 0 to 256 in rising order, each with
-/// what the packets of its protocols show.
+/// The classes of protocols: rows that partition the numbers from 0 to 256 in rising order, each
+/// with what the packets of its protocols show.
 #[derive(Clone, Copy, Debug)]
 pub struct Classes<const N: usize> {
     /// The rows, in rising order of protocols.

@@ -5,39 +5,51 @@ use crate::axis::Axis;
 use crate::hull::Hull;
 use crate::region::{Frame, Region};
 use lists::NoMemory;
-use std::marker::{Model, PhantomData};
+use std::alloc::AllocError;
+use std::marker::Model;
 
 /// The numbers of an axis from a low one up to a high one, both included. A contract sees the low
 /// number, and how many more there are above it.
-#[derive_where(Clone, Copy, Debug, PartialEq, Eq, Hash)]
+#[derive_where(Copy, Debug, PartialEq, Eq, Hash)]
 pub struct Interval<A: Axis> {
-    low: u128,
-    high: u128,
-    axis: PhantomData<A>,
+    low: A,
+    high: A,
 }
 
 impl<A: Axis> Model for Interval<A> {
     ghost use Rattle.std.specs.Prelude.{◌+◌, ◌-◌, ◌≤◌};
-    ghost use Rattle.std.proofs.Common.{add-sub_of_le};
-    ghost use Rattle.sel_region.specs.Interval.{Range, range_from};
+    ghost use Rattle.std.proofs.Common.{◌∙◌, add-sub_of_le, ap};
+    ghost use Rattle.sel_region.specs.Interval.{Range, high_of, range_from};
 
     ghost Value = { Range };
 
-    ghost view = { λ i. range_from i.low i.high };
+    ghost view = { λ i. range_from (A.value i.low) (A.value i.high) };
 
-    ghost invariant = { λ i. (i.low ≤ i.high) × (i.high ≤ A.LAST) };
+    ghost invariant = { λ i.
+        (A.value i.low ≤ A.value i.high) × (A.value i.high ≤ A.LAST) };
 
     ghost inverse = { λ r. record {
-      low = r.low;
-      high = r.low + r.more;
-      axis = record {};
+      low = A.from_value r.low;
+      high = A.from_value (high_of r);
     } };
 
     ghost inverse_ok = { λ i ordered k. record {
-      low = i.low;
-      high = add-sub_of_le ordered.0 k;
-      axis = record {};
+      low = A.number_is i.low k;
+      high = (ap A.from_value (add-sub_of_le ordered.0) ∙ A.number_is i.high) k;
     } };
+}
+
+impl<A: Axis> Clone for Interval<A> {
+    ghost use Rattle.std.specs.Prelude.{◌≡◌, ⊤};
+
+    ghost is_clone = { λ i copy. copy ≡ i };
+
+    ghost is_infallible = { λ _. ⊤ };
+
+    #[inline]
+    fn clone(&self) -> Result<Self, AllocError> {
+        Ok(*self)
+    }
 }
 
 impl<A: Axis> Interval<A> {
@@ -60,7 +72,7 @@ impl<A: Axis> Interval<A> {
         ensures value { result ≡ self.now.low }
         ensures on_axis { result ≤ A.LAST }
     {
-        self.low
+        self.low.value()
     }
 
     /// Its greatest number.
@@ -69,7 +81,7 @@ impl<A: Axis> Interval<A> {
         ensures value { result ≡ high_of self.now }
         ensures on_axis { result ≤ A.LAST }
     {
-        self.high
+        self.high.value()
     }
 
     #[inline]
@@ -79,9 +91,8 @@ impl<A: Axis> Interval<A> {
         ensures { result ≡ range_from low high }
     {
         Interval {
-            low,
-            high,
-            axis: PhantomData,
+            low: A::from_value(low),
+            high: A::from_value(high),
         }
     }
 }
@@ -110,18 +121,20 @@ impl<A: Axis> Region for Interval<A> {
 
     #[inline]
     fn has(&self, point: &u128) -> bool {
-        self.low <= *point && *point <= self.high
+        // Both ends are always compared, here and below: that takes less time than a branch that is
+        // guessed wrongly.
+        (self.low_value() <= *point) & (*point <= self.high_value())
     }
 
     #[inline]
     fn meets(&self, other: &Self) -> bool {
-        self.low <= other.high && other.low <= self.high
+        (self.low_value() <= other.high_value()) & (other.low_value() <= self.high_value())
     }
 
     #[inline]
     fn meet(&self, other: &Self) -> Option<Self> {
-        let low = self.low.max(other.low);
-        let high = self.high.min(other.high);
+        let low = self.low_value().max(other.low_value());
+        let high = self.high_value().min(other.high_value());
         if low <= high {
             Some(Interval::between(low, high))
         } else {
@@ -131,12 +144,12 @@ impl<A: Axis> Region for Interval<A> {
 
     #[inline]
     fn within(&self, other: &Self) -> bool {
-        other.low <= self.low && self.high <= other.high
+        (other.low_value() <= self.low_value()) & (self.high_value() <= other.high_value())
     }
 
     #[inline]
     fn low(&self) -> u128 {
-        self.low
+        self.low_value()
     }
 
     #[inline]
@@ -149,11 +162,13 @@ impl<A: Axis> Region for Interval<A> {
     ) -> Result<(), NoMemory> {
         // Where a piece lies below the other, the other's low end isn't 0, and where one lies
         // above, its high end isn't the last number: neither step passes an end of the type.
-        if self.low < other.low {
-            pieces.push(frame.around(Interval::between(self.low, other.low - 1)))?;
+        let (low, high) = (self.low_value(), self.high_value());
+        let (below, above) = (other.low_value(), other.high_value());
+        if low < below {
+            pieces.push(frame.around(Interval::between(low, below - 1)))?;
         }
-        if other.high < self.high {
-            pieces.push(frame.around(Interval::between(other.high + 1, self.high)))?;
+        if above < high {
+            pieces.push(frame.around(Interval::between(above + 1, high)))?;
         }
         Ok(())
     }
@@ -169,6 +184,8 @@ impl<A: Axis> Hull for Interval<A> {
 
     #[inline]
     fn hull(&self, other: &Self) -> Self {
-        Interval::between(self.low.min(other.low), self.high.max(other.high))
+        let low = self.low_value().min(other.low_value());
+        let high = self.high_value().max(other.high_value());
+        Interval::between(low, high)
     }
 }

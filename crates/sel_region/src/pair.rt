@@ -37,12 +37,13 @@ impl<R: Region, S: Region> Region for Pair<R, S> {
 
     #[inline]
     fn has(&self, point: &Self::Point) -> bool {
-        self.first.has(&point.0) && self.second.has(&point.1)
+        // Both parts are always tested, as both ends of an interval are.
+        self.first.has(&point.0) & self.second.has(&point.1)
     }
 
     #[inline]
     fn meets(&self, other: &Self) -> bool {
-        self.first.meets(&other.first) && self.second.meets(&other.second)
+        self.first.meets(&other.first) & self.second.meets(&other.second)
     }
 
     #[inline]
@@ -54,7 +55,7 @@ impl<R: Region, S: Region> Region for Pair<R, S> {
 
     #[inline]
     fn within(&self, other: &Self) -> bool {
-        self.first.within(&other.first) && self.second.within(&other.second)
+        self.first.within(&other.first) & self.second.within(&other.second)
     }
 
     #[inline]

@@ -13,7 +13,7 @@ pub struct Entry {
     pub link: u32,
 }
 
-const _: () = prove!(size_of::<Entry>() <= 320);
+const _: () = prove!(size_of::<Entry>() <= 224);
 
 /// Entries in the order of their lines.
 pub type EntryList = lists::List<Entry>;

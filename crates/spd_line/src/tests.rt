@@ -11,7 +11,7 @@ use std::mem::size_of;
 use std::process::Abort;
 use std::test::Fail;
 
-const _: () = prove!(size_of::<LineBox>() <= 272);
+const _: () = prove!(size_of::<LineBox>() <= 208);
 
 const TRANSPORT: Action = Action::Protect {
     ipsec: Ipsec::Esp,
