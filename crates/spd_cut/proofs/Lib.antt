@@ -1,7 +1,9 @@
 pub mod Counts
 pub mod Cuts
+pub mod Families
 pub mod FirstLines
 pub mod Gathered
 pub mod Loops
+pub mod Passed
 pub mod PolicyLaws
 pub mod Standing

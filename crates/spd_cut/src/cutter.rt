@@ -1,31 +1,29 @@
-ghost use Rattle.std.specs.Prelude.{◌≡◌, ◌≤◌, ◌+◌, ◌++◌, ◌∷◌, [], filter, length, map, IfErr, OnOk};
-ghost use Rattle.sel_box.specs.SomePoint.{has_real_point};
-ghost use Rattle.spd_cut.specs.Entries.{linked, piece_of};
+ghost use Rattle.std.specs.Prelude.{◌≡◌, ◌≤◌, ◌∷◌, [], length, IfErr, OnOk};
+ghost use Rattle.spd_cut.specs.Entries.{linked};
 ghost use Rattle.spd_cut.specs.inner.Cut.{Continues, IsRefused};
 
-use crate::cut::{Room, cut_out};
-use crate::{CutFault, Entry, EntryList, NoMemory};
-use sel_box::{AnyBox, RegionList, has_real};
+use crate::family_cutter::FamilyCutter;
+use crate::{CutFault, Entry, EntryList};
+use sel_box::{AnyBox, Box4, Box6};
 use spd_line::LineBox;
 use std::alloc::Global;
 use std::marker::Model;
 
-// The regions of the boxes that were cut so far and the entries that they gave, with two lists that
-// serve each box anew: its pieces, and those of the next cut.
+// The boxes that were cut so far, those of each family by themselves, since none meets one of the
+// other, and the entries that they gave.
 #[derive(Drop)]
 pub struct Cutter {
-    earlier: RegionList,
+    four: FamilyCutter<Box4>,
+    six: FamilyCutter<Box6>,
     entries: EntryList,
-    pieces: Vec<AnyBox>,
-    spare: Vec<AnyBox>,
 }
 
 impl Model for Cutter {
-    ghost use Rattle.spd_cut.specs.inner.Cut.{Cut};
+    ghost use Rattle.spd_cut.specs.inner.Cut.{Cut, of_both};
 
     ghost Value = { Cut };
 
-    ghost view = { λ c. record { earlier = c.earlier; entries = c.entries } };
+    ghost view = { λ c. record { earlier = of_both c.four c.six; entries = c.entries } };
 }
 
 impl Cutter {
@@ -34,10 +32,9 @@ impl Cutter {
         ensures { result ≡ record { earlier = []; entries = [] } }
     {
         Cutter {
-            earlier: RegionList::new(alloc),
+            four: FamilyCutter::new(alloc),
+            six: FamilyCutter::new(alloc),
             entries: EntryList::new(alloc),
-            pieces: Vec::new(alloc),
-            spare: Vec::new(alloc),
         }
     }
 
@@ -66,21 +63,10 @@ impl Cutter {
         ensures few { OnOk result (length self.new.entries ≤ limit) }
         ensures fault { IfErr result (IsRefused limit self.old (uncut.now ∷ [])) }
     {
-        let room = Room {
-            done: self.entries.len() as u32,
-            limit,
-            line: uncut.link,
-        };
-        begin(&mut self.pieces, uncut.region)?;
-        cut_out(
-            self.earlier.as_slice(),
-            &mut self.pieces,
-            &mut self.spare,
-            room,
-        )?;
-        put_real(&self.pieces, uncut, &mut self.entries)?;
-        self.earlier.push(uncut.region)?;
-        Ok(())
+        match uncut.region {
+            AnyBox::Four(region) => self.four.add(region, uncut, limit, &mut self.entries),
+            AnyBox::Six(region) => self.six.add(region, uncut, limit, &mut self.entries),
+        }
     }
 
     // The entries of all boxes.
@@ -90,31 +76,4 @@ impl Cutter {
         let Cutter { entries, .. } = self;
         entries
     }
-}
-
-// Makes a box its own only piece.
-fn begin(pieces: &mut Vec<AnyBox>, region: AnyBox) -> Result<(), NoMemory>
-    ensures { OnOk result (pieces.new.items ≡ region ∷ []) }
-{
-    pieces.clear();
-    pieces.push(region)?;
-    Ok(())
-}
-
-// Puts an entry at the end for each piece of a box in which some packet can lie.
-fn put_real(pieces: &[AnyBox], uncut: &Entry, entries: &mut EntryList) -> Result<(), NoMemory>
-    ensures put { OnOk result (entries.new
-        ≡ entries.old ++ map (piece_of uncut.now) (filter has_real_point pieces.now)) }
-    ensures few { OnOk result (length entries.new ≤ length entries.old + length pieces.now) }
-{
-    for piece in pieces {
-        if has_real(piece) {
-            entries.push(Entry {
-                region: *piece,
-                judgement: uncut.judgement,
-                link: uncut.link,
-            })?;
-        }
-    }
-    Ok(())
 }

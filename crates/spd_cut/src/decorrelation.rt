@@ -19,8 +19,10 @@ use std::alloc::Global;
 /// can lie count until their box is finished. `Limit` comes exactly where a count passes the limit,
 /// with the line of the first such count.
 ///
-/// Each box is cut by all boxes before it, so this takes time by their number times that of the
-/// pieces that it has. It takes memory for the entries, a region for each box, and twice the most
+/// Each box is cut by all boxes before it. Those that can't change what is left of it are passed
+/// over: those of the other family, those that don't meet it, most of them in blocks
+/// (`sel_blocks`), and all where nothing is left. An earlier box passes over the pieces that it
+/// doesn't meet, likewise. It takes memory for the entries, a region for each box, and the most
 /// pieces that a box has at once.
 pub fn decorrelate<L: Lines>(
     alloc: Global,

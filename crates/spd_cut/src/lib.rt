@@ -11,5 +11,6 @@ mod cut;
 mod cutter;
 mod decorrelation;
 mod entry;
+mod family_cutter;
 mod fault;
 pub mod laws;

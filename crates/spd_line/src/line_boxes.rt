@@ -1,5 +1,4 @@
 ghost use Rattle.std.specs.Prelude.{◌≡◌, ◌≤◌, ◌++◌, IfOk, OnOk, length, map};
-ghost use Rattle.sel_box.specs.declared.any_box.AnyBox.{AnyBox};
 ghost use Rattle.sel_text.specs.Family.{last_address};
 ghost use Rattle.spd_line.specs.LineBoxes.{field_ranges, final_list, line_box, line_boxes};
 ghost use Rattle.spd_line.specs.LineBoxes.{line_ranges};
@@ -9,7 +8,7 @@ use crate::ranges::{ranges_of_addresses, ranges_of_ports, ranges_of_protocol};
 use crate::select::has_direction;
 use crate::verdict::judge_by;
 use crate::{Judgement, Line, LineParts, NoMemory};
-use sel_box::{AnyBox, Box4, Box6, Direction, Family, Ranges};
+use sel_box::{AnyBox, Box4, Box6, Direction, Family, OfFamily, Ranges};
 use sel_region::{Axis, Field, Interval, Pair, Proto, Region};
 use std::alloc::Global;
 
@@ -28,31 +27,6 @@ pub type Group = lists::List<LineBox>;
 
 // The ranges of a box that are alike in both families: protocol, local and remote field.
 type FieldRanges = Pair<Interval<Proto>, Pair<Interval<Field>, Interval<Field>>>;
-
-// A box whose type has the family.
-trait OfFamily: Copy {
-    ghost region: { Self → AnyBox };
-
-    // The box with its family.
-    fn region(&self) -> AnyBox
-        ensures { result ≡ region self.now };
-}
-
-impl OfFamily for Box4 {
-    ghost region = { AnyBox.Four };
-
-    fn region(&self) -> AnyBox {
-        AnyBox::Four(*self)
-    }
-}
-
-impl OfFamily for Box6 {
-    ghost region = { AnyBox.Six };
-
-    fn region(&self) -> AnyBox {
-        AnyBox::Six(*self)
-    }
-}
 
 /// The boxes of the points that the line selects in the direction (RFC 4301 section 4.4.1.1), each
 /// with the line's judgement there, at most 4,096; none where the line lacks the direction.

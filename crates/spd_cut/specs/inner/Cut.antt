@@ -1,5 +1,6 @@
 -- How far the cutting of a policy is, and what it comes to.
-use Rattle.std.specs.Prelude.{◌≡◌, ℕ, Bool, true, List, ◌++◌, length, Option}
+use Rattle.std.specs.Prelude.{◌≡◌, ℕ, Bool, true, List, ◌++◌, length, map, Option}
+use Rattle.sel_box.specs.Boxes.{Ranges}
 use Rattle.sel_box.specs.declared.any_box.AnyBox.{AnyBox}
 use Rattle.spd_cut.specs.declared.entry.Entry.{Entry}
 use Rattle.spd_cut.specs.declared.fault.CutFault.{CutFault}
@@ -11,6 +12,10 @@ use Rattle.spd_cut.specs.Steps.{first_over, steps_after}
 pub record Cut : Type 0 where
   pub earlier : List AnyBox
   pub entries : List Entry
+
+-- The boxes of both families, of which none meets one of the other.
+abbrev pub of_both : List Ranges → List Ranges → List AnyBox
+of_both four six = map AnyBox.Four four ++ map AnyBox.Six six
 
 -- All entries, and the line of the first step behind what is cut so far that passes the limit.
 pub record WholeCut : Type 0 where
