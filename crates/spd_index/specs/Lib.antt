@@ -1,0 +1,2 @@
+pub mod IsIndexOf
+pub mod inner
