@@ -61,6 +61,19 @@ mode = 'tunnel'
 local = '10.0.0.0/8'
 gate_local = '192.0.2.1'
 gate_remote = '198.51.100.1'
+@ many
+format = 1
+line = [
+  { name = 'one', action = 'discard', local = '10.0.1.0/24' },
+  { name = 'two', action = 'discard', local = '10.0.2.0/24' },
+  { name = 'three', action = 'discard', local = '10.0.3.0/24' },
+  { name = 'four', action = 'discard', local = '10.0.4.0/24' },
+  { name = 'five', action = 'discard', local = '2001:db8:5::/48' },
+  { name = 'six', action = 'discard', local = '2001:db8:6::/48' },
+  { name = 'seven', action = 'discard', remote = '198.51.100.0/24' },
+  { name = 'eight', action = 'discard', remote = '203.0.113.0/24' },
+  { name = 'lan', action = 'bypass', direction = 'out', local = '10.0.0.0/8', remote = 'any' },
+]
 @ both
 pkt out 10.0.0.1 192.0.2.1 6 40000 443
 pkt in 192.0.2.1 10.0.0.1 6 443 40000

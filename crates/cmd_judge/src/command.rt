@@ -56,8 +56,10 @@ impl<'a> Judge<'a> {
     /// first policy line that selects it (RFC 4301 sections 4.4.1 and 5), up to the first line of
     /// the trace that is refused.
     ///
-    /// Loads each file whole, in one pass. Then it takes time by the number of packets and of
-    /// policy lines up to the first that selects each, and memory for one output line.
+    /// Loads each file whole, in one pass. Then it takes time by the number of packets, and memory
+    /// for one output line and for an index of the policy, which finds the first line of a packet
+    /// (`spd_index::Index`). A trace of less than 32,768 bytes has none, and each packet takes time
+    /// by the number of policy lines up to its first.
     pub fn run<F: Files, O: Sink>(
         &self,
         alloc: Global,

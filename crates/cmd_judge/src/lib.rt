@@ -5,5 +5,6 @@ pub use command::{Judge, JudgeEnd, TraceFault};
 
 mod command;
 pub mod laws;
+mod policy;
 mod tracing;
 mod verdict_line;

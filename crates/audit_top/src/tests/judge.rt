@@ -25,6 +25,12 @@ $ judge tunnel tunneled
 1 protect esp tunnel 2001:0db8:0000:0000:0000:0000:0000:0001 \
 2001:0db8:0000:0000:0000:0000:0000:0002 six
 = 0
+$ judge many far
+16385 bypass lan
+16386 discard three
+16387 discard five
+16388 discard final
+= 0
 $ judge lan cut
 1 bypass lan
 error: trace line 2: bad word 3
@@ -78,6 +84,13 @@ $ judge lan ! report 1
 = 2
 ";
 
+// What stands behind 32,768 bytes of comments, in a trace that is long enough for an index.
+const FAR: &str = "pkt out 10.0.0.1 192.0.2.1 6 40000 443
+pkt out 10.0.3.1 192.0.2.1 6 40000 443
+pkt in 2001:db8::1 2001:db8:5::1 6 443 40000
+pkt in 192.0.2.1 10.0.0.1 6 443 40000
+";
+
 #[test]
 fn each_run_ends_as_stated(rt: HostRuntime) -> Result<(), Fail> {
     let alloc = rt.alloc();
@@ -86,6 +99,8 @@ fn each_run_ends_as_stated(rt: HostRuntime) -> Result<(), Fail> {
             let mut files = files_of(alloc, FILES)?;
             let long = vec![in alloc; b'#'; 1_048_577]?;
             files.push(file_of(alloc, "long", std::str::from_utf8(long.as_slice())?)?)?;
+            let far = format!(in alloc; "{}{FAR}", "#\n".repeat(alloc, 16_384)?)?;
+            files.push(file_of(alloc, "far", far.as_str())?)?;
             assert_eq!(rt; ran(alloc, files, call)?.as_str(), ended, "{call}");
         }
     }

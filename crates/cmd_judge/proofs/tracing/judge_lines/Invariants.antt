@@ -3,7 +3,7 @@ use Rattle.spd_line.specs.declared.line.LineParts.{LineParts}
 use Rattle.trace_text.specs.Trace.{events_of}
 use Rattle.audit_frame.specs.Answer.{IsSent}
 use Rattle.cmd_judge.specs.Judge.{trace_answer}
-use Rattle.cmd_judge.proofs.tracing.judge_trace.Given as goal
+use Rattle.cmd_judge.proofs.tracing.judge_lines.Given as goal
 
 -- The lines before the rest were judged and written, and counted by the number.
 pub record Progress (lines : List LineParts) (trace rest : List ℕ) (number : ℕ) (before now : Option (List ℕ)) : Type 0 where
@@ -12,7 +12,7 @@ pub record Progress (lines : List LineParts) (trace rest : List ℕ) (number : �
 
 abbrev pub invariant-loop-rest : goal.invariant-loop-rest
 invariant-loop-rest g l = record {
-  progress : Progress l.lines l.trace l.rest l.line (g.O.Sink.told l.initial.out) (g.O.Sink.told l.out);
+  progress : Progress l.policy.lines.now l.trace l.rest l.line (g.O.Sink.told l.initial.out) (g.O.Sink.told l.out);
   faults : g.O.Sink.faults l.out ≡ g.O.Sink.faults l.initial.out;
 }
 

@@ -3,7 +3,7 @@ use Rattle.std.proofs.lemmas.List.{length-drop}
 use Rattle.std.proofs.lemmas.Result.{err_from_is_err_and}
 use Rattle.std.proofs.Math.Seq.{take-length}
 use Rattle.audit_frame.proofs.Lines.{IsSent-prefix, IsSent-then}
-use Rattle.cmd_judge.proofs.tracing.judge_trace.Goals as goal
+use Rattle.cmd_judge.proofs.tracing.judge_lines.Goals as goal
 
 pub returns-in_err-taken-clause-writes : goal.returns-in_err-taken-clause-writes
 returns-in_err-taken-clause-writes g c =
