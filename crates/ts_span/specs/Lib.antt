@@ -1,0 +1,3 @@
+pub mod Span
+pub mod Table
+pub mod Spelling
