@@ -3,6 +3,7 @@ pub mod Cuts
 pub mod Families
 pub mod FirstLines
 pub mod Gathered
+pub mod Groups
 pub mod Loops
 pub mod Passed
 pub mod PolicyLaws

@@ -5,6 +5,7 @@
 pub use decorrelation::decorrelate;
 pub use entry::{Entry, EntryList};
 pub use fault::CutFault;
+pub use grouping::group;
 pub use lists::NoMemory;
 
 mod cut;
@@ -13,4 +14,6 @@ mod decorrelation;
 mod entry;
 mod family_cutter;
 mod fault;
+pub mod group_laws;
+mod grouping;
 pub mod laws;

@@ -1,0 +1,4 @@
+pub mod Cached
+pub mod Key
+pub mod KeyOf
+pub mod laws

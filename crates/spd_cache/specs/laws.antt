@@ -1,0 +1,2 @@
+-- Proofs that keys may be compared and hashed.
+pub mod Keys
