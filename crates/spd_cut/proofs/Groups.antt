@@ -197,7 +197,8 @@ part-judged : (link : ℕ) (pins : Pins) (x : PointFields) (judgement : Judgemen
 part-judged link pins x judgement e point judged = go (e.link == link) (pinned_part pins e.region) (pinned_part-has pins e.region x (on_axes x point))
   where
     go : (test : Bool) (part : Option AnyBox) → some_has box_has part x ≡ (box_has e.region x && pins_fit pins x) →
-        All (JudgedBy x judgement) (option_to_list (cond test (option_map (λ (region : AnyBox). record { region = region; judgement = e.judgement }) part) None))
+        All (JudgedBy x judgement)
+        (option_to_list (cond test (option_map (λ (region : AnyBox). record { region = region; judgement = e.judgement }) part) None))
     go true None has = All-nil (JudgedBy x judgement)
     go true (Some region) has =
         All-cons (JudgedBy x judgement) _ [] (λ here. judged (and_parts _ _ (sym has ∙ here)).0) (All-nil (JudgedBy x judgement))

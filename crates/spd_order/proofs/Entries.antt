@@ -18,7 +18,7 @@ use Rattle.spd_line.specs.Policy.{final_name, most_lines, names}
 use Rattle.spd_order.specs.Edits.{is_place, moved_item}
 use Rattle.spd_order.specs.inner.Kept.{HoldsPolicy}
 use Rattle.spd_order.specs.Names.{index_in, is_taken}
-use Rattle.spd_order.proofs.Edited.{place_within, MayInsert}
+use Rattle.spd_order.proofs.MayEdit.{place_within, MayInsert}
 use Rattle.spd_order.proofs.Policies.{policy-insert, policy-moved, policy-remove}
 
 pub map-insert : {A B : Type 0} (f : A → B) (xs : List A) (index : ℕ) (x : A) → map f (insert xs index x) ≡ insert (map f xs) index (f x)
@@ -75,7 +75,7 @@ values-remove es index = map-remove value es index
 names-remove : (lines : List LineParts) (index : ℕ) → names (remove lines index) ≡ remove (names lines) index
 names-remove lines index = map-remove name lines index
 
-length-values : (es : List Entry) → length (values_of es) ≡ length es
+pub length-values : (es : List Entry) → length (values_of es) ≡ length es
 length-values es = length-map es value
 
 own-insert : (es : List Entry) (index : ℕ) (e : Entry) → e.0 ≡ e.1.name → keys_of es ≡ names (values_of es)

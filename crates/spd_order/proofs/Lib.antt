@@ -1,4 +1,5 @@
-pub mod Edited
+pub mod MayEdit
 pub mod Entries
 pub mod Policies
+pub mod Previews
 pub mod Repeats

@@ -13,6 +13,8 @@ use spd_line::{FINAL, Line, LineList, Lines, MOST_LINES};
 use std::alloc::Global;
 use std::marker::Model;
 
+mod preview;
+
 /// An ordered policy (RFC 4301 section 4.4.1): at most 4,096 lines, no two of one name and none
 /// named `final`, the name of the line behind the last. A contract sees it as the list of its
 /// lines.
@@ -59,7 +61,7 @@ impl Spd {
     }
 
     // Puts a line behind the last.
-    #[tactic(auto, using(crate::proofs::Edited::inserted_end))]
+    #[tactic(auto, using(crate::proofs::MayEdit::inserted_end))]
     fn push(&mut self, line: Line) -> Result<(), OrderFault>
         ensures ok { OnOk result (self.new ≡ self.old ++ line ∷ []) }
         ensures fault { IfErr result (IsFaultOf (inserted (length self.old + 1) line self.old)) }

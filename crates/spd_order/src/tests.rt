@@ -1,4 +1,4 @@
-use crate::{OrderFault, Spd};
+use crate::{Change, Edited, OrderFault, Spd};
 use sel_text::{Name, read_name};
 use spd_line::{Action, Line, LineList, LineParts, Lines};
 use std::alloc::Global;
@@ -25,16 +25,16 @@ fn policy(rt: &impl Abort, alloc: Global, letters: &[u8]) -> Result<Spd, OrderFa
     Spd::from_lines(alloc, lines)
 }
 
-fn has_names(spd: &Spd, letters: &[u8]) -> bool {
+fn has_names<L: Lines>(lines: &L, letters: &[u8]) -> bool {
     let mut place = 0u32;
     for letter in letters {
         place = place.saturating_add(1);
-        match spd.at(place) {
+        match lines.at(place) {
             Some(line) if line.parts().name.as_bytes() == [*letter].as_slice() => {}
             _ => return false,
         }
     }
-    spd.count() == place
+    lines.count() == place
 }
 
 #[derive(Clone, Copy)]
@@ -56,6 +56,47 @@ fn make_edit(rt: &impl Abort, alloc: Global, spd: &mut Spd, edit: Edit) -> Optio
     }
 }
 
+// Previews an edit, and gives its fault; where it has none, the lines are those of these names.
+fn preview_edit(
+    rt: &impl Abort,
+    alloc: Global,
+    spd: &Spd,
+    edit: Edit,
+    letters: &[u8],
+) -> Option<OrderFault> {
+    match edit {
+        Edit::Insert(place, text) => {
+            let line = line(rt, alloc, text);
+            let change = Change::Insert { place, line: &line };
+            shown(rt, spd.preview(change), letters)
+        }
+        Edit::Delete(text) => {
+            let name = name(rt, text);
+            shown(rt, spd.preview(Change::Delete { name: &name }), letters)
+        }
+        Edit::Shift(text, place) => {
+            let name = name(rt, text);
+            let change = Change::Move { name: &name, place };
+            shown(rt, spd.preview(change), letters)
+        }
+    }
+}
+
+// The fault of a preview; where it has none, its lines are those of these names.
+fn shown(
+    rt: &impl Abort,
+    preview: Result<Edited, OrderFault>,
+    letters: &[u8],
+) -> Option<OrderFault> {
+    match preview {
+        Ok(edited) => {
+            assert!(rt; has_names(&edited, letters));
+            None
+        }
+        Err(fault) => Some(fault),
+    }
+}
+
 #[test]
 fn edits_keep_the_order_of_all_others(rt: HostRuntime) {
     let mut spd = policy(&rt, rt.alloc(), b"abc").expect(&rt, "a policy");
@@ -74,6 +115,7 @@ fn edits_keep_the_order_of_all_others(rt: HostRuntime) {
         ),
         (Edit::Shift(b"b", 5), Some(OrderFault::BadPlace), b"ebca"),
     ] {
+        assert_eq!(rt; preview_edit(&rt, rt.alloc(), &spd, edit, letters), fault);
         assert_eq!(rt; make_edit(&rt, rt.alloc(), &mut spd, edit), fault);
         assert!(rt; has_names(&spd, letters));
     }

@@ -7,7 +7,7 @@ use Rattle.std.proofs.lemmas.Option.{slice_get_read}
 use Rattle.std.proofs.lemmas.Result.{err_from_is_err_and}
 use Rattle.spd_line.specs.declared.line.LineParts.{LineParts}
 use Rattle.spd_line.specs.Policy.{IsPolicy, most_lines}
-use Rattle.spd_order.proofs.Edited.{refused_end}
+use Rattle.spd_order.proofs.MayEdit.{refused_end}
 use Rattle.spd_order.proofs.Repeats.{policy_fault-policy}
 use Rattle.spd_order.proofs.spd.Spd.from_lines.Goals as goal
 

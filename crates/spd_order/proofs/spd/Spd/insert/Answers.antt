@@ -1,5 +1,5 @@
 use Rattle.std.proofs.Common.{refl, sym}
-use Rattle.spd_order.proofs.Edited.{may_insert}
+use Rattle.spd_order.proofs.MayEdit.{may_insert}
 use Rattle.spd_order.proofs.Entries.{absent, put_in}
 use Rattle.spd_order.proofs.spd.Spd.insert.Goals as goal
 
