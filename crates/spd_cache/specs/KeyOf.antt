@@ -1,5 +1,5 @@
 -- The key of a point under a policy.
-use Rattle.std.specs.Prelude.{List, Option, Some, None}
+use Rattle.std.specs.Prelude.{ℕ, ◌+◌, bytes_eq, List, [], ◌∷◌, Option, Some, None, if◌then◌else◌}
 use Rattle.sel_box.specs.declared.packet.Direction.{Direction}
 use Rattle.sel_box.specs.Point.{PointFields}
 use Rattle.spd_line.specs.declared.line.LineParts.{LineParts}
@@ -18,3 +18,8 @@ abbrev pub key_of : Direction → PointFields → List LineParts → Key
 key_of d x lines =
     let place = first_place d x lines in
     record { direction = d; name = name_at lines place; pins = pins_at (line_at lines place) x }
+
+-- The place of the line of the name, and the place behind the last where there is none: there `final` stands.
+abbrev pub place_named : List ℕ → List LineParts → ℕ
+place_named name [] = 1
+place_named name (line ∷ lines) = if bytes_eq name line.name then 1 else 1 + place_named name lines
