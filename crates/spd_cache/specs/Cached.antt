@@ -20,6 +20,7 @@ pub record Cached : Type 0 where
   pub entries : List Cell
   pub capacity : ℕ
 
+-- The cache with these groups and this capacity.
 abbrev pub cached : List Cell → ℕ → Cached
 cached entries capacity = record { entries = entries; capacity = capacity }
 

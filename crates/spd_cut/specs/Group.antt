@@ -17,7 +17,7 @@ use Rattle.spd_cut.specs.declared.entry.Entry.{Entry}
 -- The value is the pinned one, where there is one.
 abbrev pub fits : Option ℕ → ℕ → Bool
 fits None value = true
-fits (Some pinned) value = value == pinned
+fits (Some pinned) value = pinned == value
 
 -- The family is the pinned one, where there is one.
 abbrev pub fits_family : Option Family → Family → Bool
