@@ -95,11 +95,12 @@ fn judge_event<O: Sink>(
     text: &mut Vec<u8>,
     out: &mut O,
 ) -> Result<Result<(), TraceFault>, WriteRefused>
-    ensures judged { IfOk result (IsEvent policy.now.lines.now number (option_map event_now event.now)
-        (O.told out.old) (O.told out.new)) }
+    ensures judged { IfOk result (IsEvent policy.now.lines.now number
+        (option_map event_now event.now) (O.told out.old) (O.told out.new)) }
     ensures prefix { OnErr result ((others : Answer JudgeEnd) → GainsPrefix
         (O.told out.old) (O.told out.new)
-        (text_of (by_event policy.now.lines.now number (option_map event_now event.now) others).lines)) }
+        (text_of (by_event policy.now.lines.now number
+        (option_map event_now event.now) others).lines)) }
     ensures causes { IfErr result (WriteCauses (O.faults out.old) (O.faults out.new)) }
     ensures no_fault { OnOk result (O.faults out.new ≡ O.faults out.old) }
 {

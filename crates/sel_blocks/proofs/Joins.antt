@@ -1,7 +1,9 @@
 -- The regions of some blocks, where one block is changed, taken out or parted.
-use Rattle.std.proofs.Common.{◌≡◌, ℕ, suc, ◌+◌, ◌<◌, ◌≤◌, List, [], ◌∷◌, ◌++◌, length, map, take, drop, set, get_or, refl, sym, ap, ap₂, ◌∙◌, append_assoc, arith}
+use Rattle.std.proofs.Common.{◌≡◌, ℕ, suc, ◌+◌, ◌<◌, ◌≤◌, List, [], ◌∷◌, ◌++◌, length, map, take, drop, set, get_or}
+use Rattle.std.proofs.Common.{refl, sym, ap, ap₂, ◌∙◌, append_assoc, arith}
 use Rattle.std.specs.Prelude.{insert, remove}
-use Rattle.std.proofs.lemmas.List.{append-nil, drop_all, drop_at, length-take-le, set_split, set-get_or, take-append-drop, take-append-le, take-take, take_all, take_at}
+use Rattle.std.proofs.lemmas.List.{append-nil, drop_all, drop_at, length-take-le, set_split, set-get_or}
+use Rattle.std.proofs.lemmas.List.{take-append-drop, take-append-le, take-take, take_all, take_at}
 use Rattle.std.proofs.lemmas.List.Edits.{length-insert}
 use Rattle.std.proofs.lemmas.List.Concat.{flat_map-append}
 use Rattle.sel_region.specs.Cutting.{cut_each}

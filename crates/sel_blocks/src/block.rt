@@ -58,8 +58,8 @@ impl<R: Hull> Block<R> {
         self.items.as_slice()
     }
 
-    /// Whether the hull meets the other region. Where it doesn't, no region of the block does. Takes
-    /// the time of one test.
+    /// Whether the hull meets the other region. Where it doesn't, no region of the block does.
+    /// Takes the time of one test.
     #[inline]
     pub fn may_meet(&self, other: &R) -> bool
         ensures { OnFalse result (All (λ r. IsNone (R.meet r other.now)) self.now) }

@@ -141,7 +141,8 @@ line_regions-counted line =
     let all = length-append (family_regions Four line) (family_regions Six line) in
     let four_count = length-map (line_ranges Four line) (box_from Four) in
     let six_count = length-map (line_ranges Six line) (box_from Six) in
-    both (count_by (is_of_family Four) line.local) (count_by (is_of_family Four) line.remote) (count_by (is_of_family Six) line.local) (count_by (is_of_family Six) line.remote)
+    both (count_by (is_of_family Four) line.local) (count_by (is_of_family Four) line.remote)
+    (count_by (is_of_family Six) line.local) (count_by (is_of_family Six) line.remote)
     (field_parts line) _ _ _ (line_ranges-counted Four line) (line_ranges-counted Six line) (all ∙ ap₂ (λ a b. a + b) four_count six_count)
   where
     both : (a b c d f four six all : ℕ) → Counted (AreInOrder line) four (a * (b * f)) → Counted (AreInOrder line) six (c * (d * f)) →
