@@ -1,0 +1,5 @@
+pub mod Faults
+pub mod Lane
+pub mod Machine
+pub mod Policy
+pub mod inner

@@ -1,0 +1,3 @@
+-- What is kept inside. No public clause cites this.
+pub mod Cuts
+pub mod Kept

@@ -1,0 +1,113 @@
+use lists::NoMemory;
+use sel_box::Direction;
+use spd_order::OrderFault;
+use std::error::Error;
+use std::fmt;
+
+/// Why a policy isn't compiled into entries. Outbound is cut before inbound.
+#[derive(Clone, Copy, Debug, PartialEq, Eq)]
+pub enum CompileFault {
+    /// In the direction there would be more entries and pieces at once than the limit, first while
+    /// a box of the line at this place was cut; the count of the lines plus 1 is `final`.
+    Limit { direction: Direction, line: u32 },
+    /// There was no memory.
+    NoMemory,
+}
+
+impl fmt::Display for CompileFault {
+    ghost use Rattle.std.specs.Prelude.{Some};
+    ghost use Rattle.spd_lanes.specs.Faults.{compile_fault_text};
+
+    ghost output = { λ fault. Some (compile_fault_text fault) };
+
+    fn fmt<W: fmt::Write>(&self, f: &mut fmt::Formatter<W>) -> fmt::Result {
+        match self {
+            CompileFault::Limit { line, .. } => write!(f, "entry limit: line {line}"),
+            CompileFault::NoMemory => f.write_str("out of memory"),
+        }
+    }
+}
+
+impl Error for CompileFault {}
+
+impl From<NoMemory> for CompileFault {
+    ghost use Rattle.std.specs.Prelude.{◌≡◌};
+    ghost use Rattle.spd_lanes.specs.declared.fault.CompileFault.{CompileFault};
+
+    ghost from_gives = { λ _ fault. fault ≡ CompileFault.NoMemory };
+
+    fn from(_: NoMemory) -> CompileFault {
+        CompileFault::NoMemory
+    }
+}
+
+/// Why a compiled policy isn't edited: the edit's own fault first, then the limit.
+#[derive(Clone, Copy, Debug, PartialEq, Eq)]
+pub enum EditFault {
+    /// The edit can't be made. It is never `OrderFault::NoMemory`.
+    Order(OrderFault),
+    /// The edited policy passes the limit, as in `CompileFault::Limit`.
+    Limit { direction: Direction, line: u32 },
+    /// There was no memory.
+    NoMemory,
+}
+
+impl From<NoMemory> for EditFault {
+    ghost use Rattle.std.specs.Prelude.{◌≡◌};
+    ghost use Rattle.spd_lanes.specs.declared.fault.EditFault.{EditFault};
+
+    ghost from_gives = { λ _ fault. fault ≡ EditFault.NoMemory };
+
+    fn from(_: NoMemory) -> EditFault {
+        EditFault::NoMemory
+    }
+}
+
+impl From<OrderFault> for EditFault {
+    ghost use Rattle.std.specs.Prelude.{◌≡◌};
+    ghost use Rattle.spd_lanes.specs.declared.fault.EditFault.{EditFault};
+
+    ghost from_gives = { λ order fault. fault ≡ EditFault.Order order };
+
+    fn from(fault: OrderFault) -> EditFault {
+        EditFault::Order(fault)
+    }
+}
+
+impl From<CompileFault> for EditFault {
+    ghost use Rattle.std.specs.Prelude.{◌≡◌};
+    ghost use Rattle.spd_lanes.specs.Faults.{edit_fault_of};
+
+    ghost from_gives = { λ compile fault. fault ≡ edit_fault_of compile };
+
+    fn from(fault: CompileFault) -> EditFault {
+        match fault {
+            CompileFault::Limit { direction, line } => EditFault::Limit { direction, line },
+            CompileFault::NoMemory => EditFault::NoMemory,
+        }
+    }
+}
+
+/// Why an event of a lane is refused. The lane stays as it is then.
+#[derive(Clone, Copy, Debug, PartialEq, Eq)]
+pub enum LaneFault {
+    /// Only an idle lane takes a packet.
+    LaneBusy,
+    /// An idle lane has no packet.
+    LaneIdle,
+    /// The lane has a packet, and has not found its verdict.
+    LaneNotFound,
+    /// There was no memory.
+    NoMemory,
+}
+
+impl From<NoMemory> for LaneFault {
+    ghost use Rattle.std.specs.Prelude.{◌≡◌};
+    ghost use Rattle.spd_lanes.specs.declared.fault.LaneFault.{LaneFault};
+
+    ghost from_gives = { λ _ fault. fault ≡ LaneFault.NoMemory };
+
+    fn from(_: NoMemory) -> LaneFault {
+        LaneFault::NoMemory
+    }
+}
