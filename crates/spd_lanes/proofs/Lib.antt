@@ -5,4 +5,5 @@ pub mod Filling
 pub mod Following
 pub mod Loops
 pub mod Searching
+pub mod Served
 pub mod Taking

@@ -14,5 +14,6 @@ mod cut;
 mod edit;
 mod fault;
 mod lane;
+pub mod laws;
 mod shared;
 mod steps;
