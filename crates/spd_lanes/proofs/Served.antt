@@ -1,5 +1,6 @@
 -- Each event keeps what is said of lanes and keys.
-use Rattle.std.proofs.Common.{◌≡◌, ◌≢◌, ℕ, zero, suc, ◌==◌, Bool, true, false, cond, List, [], ◌∷◌, map, replicate, get_or, set, Option, Some, None, Result, Ok, Err, refl, sym, subst, ap, ◌∙◌, arith}
+use Rattle.std.proofs.Common.{◌≡◌, ◌≢◌, ℕ, zero, suc, ◌==◌, Bool, true, false, cond, List, [], ◌∷◌, map, replicate, get_or, set, Option, Some, None}
+use Rattle.std.proofs.Common.{Result, Ok, Err, refl, sym, subst, ap, ◌∙◌, arith}
 use Rattle.std.specs.List.{All, list_any}
 use Rattle.std.specs.Set.{remove_key}
 use Rattle.std.proofs.lemmas.List.Elements.{All-cons, All-contains, All-nil, All-take, All-weaker}
@@ -19,9 +20,11 @@ use Rattle.spd_lanes.specs.declared.fault.EditFault.{EditFault}
 use Rattle.spd_lanes.specs.declared.fault.LaneFault.{LaneFault}
 use Rattle.spd_lanes.specs.declared.lane.Filled.{Filled}
 use Rattle.spd_lanes.specs.declared.lane.PacketAnswer.{PacketAnswer}
-use Rattle.spd_lanes.specs.Machine.{Lane, Machine, asked, filled, filled_on, found_now, lane_at, machine, put_in, searched, searched_on, stale_lane, taken, taken_on, used, with_lane, with_lines}
+use Rattle.spd_lanes.specs.Machine.{Lane, Machine, asked, filled, filled_on, found_now, lane_at, machine, put_in, searched, searched_on, stale_lane}
+use Rattle.spd_lanes.specs.Machine.{taken, taken_on, used, with_lane, with_lines}
 use Rattle.spd_lanes.specs.Policy.{changed_by, edited_lines}
-use Rattle.spd_lanes.specs.Run.{AreServed, Event, IsFilledAsSearched, IsServed, Notes, Refusal, Reply, asked_note, fill_note, no_notes, noted, of_edit, of_lane, put_note, run, search_note, step, with_step}
+use Rattle.spd_lanes.specs.Run.{AreServed, Event, IsFilledAsSearched, IsServed, Notes, Refusal, Reply, asked_note, fill_note, no_notes, noted}
+use Rattle.spd_lanes.specs.Run.{of_edit, of_lane, put_note, run, search_note, step, with_step}
 
 -- A list with another item at an index has that item there, and the others as they were.
 with_item : {X : Type 0} (P : ℕ → X → Type 0) (default : X) (xs : List X) (place : ℕ) (x : X) → ((i : ℕ) → P i default) →
@@ -266,8 +269,10 @@ asked-first d p m = go (list_any (same_key (key_of d (view_of d p) m.lines)) m.k
   where
     go : (here : Bool) →
         (cond {A = PacketAnswer × Machine} here
-        (record { answer = answer_of d (view_of d p) m.lines; hit = true }, record m { keys = used (key_of d (view_of d p) m.lines) m.keys })
-        (record { answer = answer_of d (view_of d p) m.lines; hit = false }, record m { keys = put_in m.capacity (key_of d (view_of d p) m.lines) m.keys })).0.answer
+        (record { answer = answer_of d (view_of d p) m.lines; hit = true }, record m { keys = used (key_of d (view_of d p) m.lines) m.keys }) (
+          record { answer = answer_of d (view_of d p) m.lines; hit = false },
+          record m { keys = put_in m.capacity (key_of d (view_of d p) m.lines) m.keys },
+        )).0.answer
         ≡ answer_of d (view_of d p) m.lines
     go true = refl
     go false = refl

@@ -1,5 +1,6 @@
 -- The shared machine: a policy, the keys of what is cached, and lanes in which lookups go on while the policy is edited.
-use Rattle.std.specs.Prelude.{ℕ, Bool, true, false, not, List, [], ◌∷◌, map, replicate, take, slice_index_or, slice_set, Option, Some, None, Result, Ok, Err, if◌then◌else◌}
+use Rattle.std.specs.Prelude.{ℕ, Bool, true, false, not, List, [], ◌∷◌, map, replicate, take, slice_index_or, slice_set, Option, Some, None, Result}
+use Rattle.std.specs.Prelude.{Ok, Err, if◌then◌else◌}
 use Rattle.std.specs.List.{list_any}
 use Rattle.std.specs.Set.{remove_key}
 use Rattle.sel_box.specs.declared.packet.Direction.{Direction}

@@ -29,6 +29,7 @@ returns-clause-ok c =
     (returns-after lines lanes c.args.lane (take_step c.args.direction c.args.packet.now cache state)
     cache c.take.new.cache c.take.new.lane c.index-self-lane.result c.self.inside.compiled.limit c.take.result _
     (taken-is lines c.self.inside.compiled.limit cache lanes c.args.lane c.args.direction c.args.packet.now
-    (c.groups_answer_by_the_key_of_a_point.ensures c.args.direction (view_of c.args.direction c.args.packet.now) lines cache.entries real c.self.invariant.groups)
+    (c.groups_answer_by_the_key_of_a_point.ensures c.args.direction (view_of c.args.direction c.args.packet.now) lines cache.entries real
+    c.self.invariant.groups)
     below state (get_or_default lanes c.args.lane c.index-self-lane.result state below))
     c.take.ensures.ok)
