@@ -1,9 +1,11 @@
 -- Each event keeps what is said of lanes and keys.
-use Rattle.std.proofs.Common.{◌≡◌, ◌≢◌, ℕ, zero, suc, ◌==◌, Bool, true, false, cond, List, [], ◌∷◌, map, replicate, get_or, set, Option, Some, None}
-use Rattle.std.proofs.Common.{Result, Ok, Err, refl, sym, subst, ap, ◌∙◌, arith}
+use Rattle.std.proofs.Common.{◌≡◌, ◌≢◌, ℕ, zero, suc, ◌==◌, Bool, true, false, cond, List, [], ◌∷◌, length, map, replicate, get_or, set, Option, Some, None}
+use Rattle.std.proofs.Common.{Result, Ok, Err, refl, sym, subst, ap, ◌∙◌, arith, ◌≤◌}
 use Rattle.std.specs.List.{All, list_any}
 use Rattle.std.specs.Set.{remove_key}
 use Rattle.std.proofs.lemmas.List.Elements.{All-cons, All-contains, All-nil, All-take, All-weaker}
+use Rattle.std.proofs.lemmas.List.{length-take}
+use Rattle.std.proofs.lemmas.Map.Made.{length-remove_key}
 use Rattle.std.proofs.lemmas.Map.Views.{All-remove_key, Contains-from_any}
 use Rattle.std.proofs.lemmas.Bool.{eq-eqb, eqb-true, false_from_ne_true, false≢true}
 use Rattle.sel_box.specs.declared.packet.Direction.{Direction}
@@ -95,6 +97,14 @@ used-keys key n keys here all =
     (All-contains (λ k. n.put k ≡ true) keys key all (Contains-from_any (λ a b. (key_decides a b).0) key keys here))
     (All-remove_key (same_key key) (λ k. n.put k ≡ true) keys all)
 
+-- The capacity holds for the keys after one was used, or put in.
+used-few : (capacity : ℕ) (key : Key) (keys : List Key) → list_any (same_key key) keys ≡ true → length keys ≤ capacity →
+    length (used key keys) ≤ capacity
+used-few capacity key keys here few = let one = length-remove_key (same_key key) keys here in omega (arith, one, few)
+
+put-few : (capacity : ℕ) (key : Key) (keys : List Key) → length (put_in capacity key keys) ≤ capacity
+put-few capacity key keys = let taken = length-take capacity (used key keys) in omega (arith, taken)
+
 -- What is said after a step that isn't refused.
 abbrev ServedAfter : {A : Type 0} {E : Type 0} → Result (A × Machine) E → Notes → Type 0
 ServedAfter (Ok r) n = AreServed r.1 n
@@ -110,10 +120,15 @@ module _ (m : Machine) (n : Notes) (served : AreServed m n) where
           (record { answer = answer_of d (view_of d p) m.lines; hit = true }, record m { keys = used (key_of d (view_of d p) m.lines) m.keys })
           (record { answer = answer_of d (view_of d p) m.lines; hit = false }, record m { keys = put_in m.capacity (key_of d (view_of d p) m.lines) m.keys })).1
           (asked_note here (key_of d (view_of d p) m.lines) n)
-      go true is = record { lanes = served.lanes; keys = used-keys (key_of d (view_of d p) m.lines) n m.keys is served.keys }
+      go true is = record {
+        lanes = served.lanes;
+        keys = used-keys (key_of d (view_of d p) m.lines) n m.keys is served.keys;
+        few = used-few m.capacity (key_of d (view_of d p) m.lines) m.keys is served.few;
+      }
       go false is = record {
         lanes = put-lanes (key_of d (view_of d p) m.lines) true n m.lanes served.lanes;
         keys = put-keys m.capacity (key_of d (view_of d p) m.lines) true n m.keys refl served.keys;
+        few = put-few m.capacity (key_of d (view_of d p) m.lines) m.keys;
       }
 
   taken-served : (place : ℕ) (d : Direction) (p : PacketFields) (lane : Lane) → ServedAfter (taken_on place d p lane m) n
@@ -125,10 +140,15 @@ module _ (m : Machine) (n : Notes) (served : AreServed m n) where
           (Some (answer_of d (view_of d p) m.lines), record m { keys = used (key_of d (view_of d p) m.lines) m.keys })
           (None, with_lane place (Lane.Missed d p) m)).1
           n
-      go true is = record { lanes = served.lanes; keys = used-keys (key_of d (view_of d p) m.lines) n m.keys is served.keys }
+      go true is = record {
+        lanes = served.lanes;
+        keys = used-keys (key_of d (view_of d p) m.lines) n m.keys is served.keys;
+        few = used-few m.capacity (key_of d (view_of d p) m.lines) m.keys is served.few;
+      }
       go false is = record {
         lanes = lanes-with n m.lanes place (Lane.Missed d p) tt (λ i other. served.lanes i);
         keys = served.keys;
+        few = served.few;
       }
   taken-served place d p (Lane.Missed e q) = tt
   taken-served place d p (Lane.Found e q answer key fresh) = tt
@@ -153,6 +173,7 @@ module _ (m : Machine) (n : Notes) (served : AreServed m n) where
             (ap (λ (b : Bool). cond b true (n.current i)) apart)
             (served.lanes i));
         keys = served.keys;
+        few = served.few;
       }
 
   searched-served : (place : ℕ) (lane : Lane) → ServedAfter (searched_on place lane m) (search_note place m.lines n)
@@ -167,10 +188,12 @@ module _ (m : Machine) (n : Notes) (served : AreServed m n) where
     lanes = lanes-with (put_note key (n.current place) n) m.lanes place Lane.Idle tt
         (λ i other. put-lanes key (n.current place) n m.lanes served.lanes i);
     keys = put-keys m.capacity key (n.current place) n m.keys (held.1 refl) served.keys;
+    few = put-few m.capacity key m.keys;
   }
   filled-served place (Lane.Found d p answer key false) held = record {
     lanes = lanes-with n m.lanes place Lane.Idle tt (λ i other. served.lanes i);
     keys = served.keys;
+    few = served.few;
   }
 
   abbrev edit_notes : Notes
@@ -188,6 +211,7 @@ module _ (m : Machine) (n : Notes) (served : AreServed m n) where
   edited-served (Ok lines) = record {
     lanes = λ i. subst (IsServed edit_notes i) (sym (stale_at m.lanes i)) (stale-served i (get_or m.lanes i Lane.Idle) (served.lanes i));
     keys = All-nil (λ key. edit_notes.put key ≡ true);
+    few = omega arith;
   }
   edited-served (Err fault) = tt
 
@@ -223,6 +247,7 @@ pub begun-served : (lines : List LineParts) (limit capacity : ℕ) → AreServed
 begun-served lines limit capacity = record {
   lanes = λ i. subst (IsServed no_notes i) (sym (idle_at 16 i)) tt;
   keys = All-nil (λ key. no_notes.put key ≡ true);
+  few = omega arith;
 }
 
 -- What a fill replies, and what a take answers.

@@ -1,14 +1,15 @@
--- Why a policy isn't compiled or edited.
-use Rattle.std.specs.Prelude.{◌≡◌, ℕ, List, ◌++◌, codes, Result, Ok, Err}
-use Rattle.spd_cut.specs.Fault.{limit_line_text}
+-- Why an edit, or an event of a lane, is refused.
+use Rattle.std.specs.Prelude.{◌≡◌, ℕ, List, codes, Result, Ok, Err}
 use Rattle.spd_lanes.specs.declared.fault.CompileFault.{CompileFault}
 use Rattle.spd_lanes.specs.declared.fault.EditFault.{EditFault}
 use Rattle.spd_lanes.specs.declared.fault.LaneFault.{LaneFault}
 
--- What is printed of a fault.
-abbrev pub compile_fault_text : CompileFault → List ℕ
-compile_fault_text (CompileFault.Limit direction line) = codes "entry limit: " ++ limit_line_text line
-compile_fault_text CompileFault.NoMemory = codes "out of memory"
+-- What is printed of a refused event of a lane.
+abbrev pub lane_fault_text : LaneFault → List ℕ
+lane_fault_text LaneFault.LaneBusy = codes "lane busy"
+lane_fault_text LaneFault.LaneIdle = codes "lane idle"
+lane_fault_text LaneFault.LaneNotFound = codes "lane not found"
+lane_fault_text LaneFault.NoMemory = codes "out of memory"
 
 -- The fault of an edit that passes the limit, or has no memory.
 abbrev pub edit_fault_of : CompileFault → EditFault

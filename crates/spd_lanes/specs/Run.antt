@@ -1,5 +1,5 @@
 -- Runs of the shared machine over lists of events, and what is served in them.
-use Rattle.std.specs.Prelude.{◌≡◌, ℕ, ◌==◌, Bool, true, false, All, List, [], ◌∷◌, Option, Some, None, Result, Ok, Err, if◌then◌else◌}
+use Rattle.std.specs.Prelude.{◌≡◌, ℕ, ◌≤◌, ◌==◌, Bool, true, false, All, List, [], ◌∷◌, length, Option, Some, None, Result, Ok, Err, if◌then◌else◌}
 use Rattle.std.specs.List.{list_any}
 use Rattle.sel_box.specs.declared.packet.Direction.{Direction}
 use Rattle.sel_box.specs.Packet.{PacketFields}
@@ -126,10 +126,11 @@ IsServed n place Lane.Idle = Unit {0}
 IsServed n place (Lane.Missed d p) = Unit {0}
 IsServed n place (Lane.Found d p answer key fresh) = IsAsSearched n place d p answer × (fresh ≡ true → n.current place ≡ true)
 
--- So are all lanes, and each key was put in by a fill whose search came after the last edit.
+-- So are all lanes, each key was put in by a fill whose search came after the last edit, and there are at most as many as the capacity.
 pub record AreServed (m : Machine) (n : Notes) : Type 0 where
   pub lanes : (place : ℕ) → IsServed n place (lane_at place m)
   pub keys : All (λ key. n.put key ≡ true) m.keys
+  pub few : length m.keys ≤ m.capacity
 
 -- A fill answers as the policy did at the lane's last search, and is fresh only where no edit came since.
 abbrev pub IsFilledAsSearched : Notes → ℕ → Lane → Filled → Type 0

@@ -14,22 +14,6 @@ pub enum CompileFault {
     NoMemory,
 }
 
-impl fmt::Display for CompileFault {
-    ghost use Rattle.std.specs.Prelude.{Some};
-    ghost use Rattle.spd_lanes.specs.Faults.{compile_fault_text};
-
-    ghost output = { λ fault. Some (compile_fault_text fault) };
-
-    fn fmt<W: fmt::Write>(&self, f: &mut fmt::Formatter<W>) -> fmt::Result {
-        match self {
-            CompileFault::Limit { line, .. } => write!(f, "entry limit: line {line}"),
-            CompileFault::NoMemory => f.write_str("out of memory"),
-        }
-    }
-}
-
-impl Error for CompileFault {}
-
 impl From<NoMemory> for CompileFault {
     ghost use Rattle.std.specs.Prelude.{◌≡◌};
     ghost use Rattle.spd_lanes.specs.declared.fault.CompileFault.{CompileFault};
@@ -100,6 +84,24 @@ pub enum LaneFault {
     /// There was no memory.
     NoMemory,
 }
+
+impl fmt::Display for LaneFault {
+    ghost use Rattle.std.specs.Prelude.{Some};
+    ghost use Rattle.spd_lanes.specs.Faults.{lane_fault_text};
+
+    ghost output = { λ fault. Some (lane_fault_text fault) };
+
+    fn fmt<W: fmt::Write>(&self, f: &mut fmt::Formatter<W>) -> fmt::Result {
+        f.write_str(match self {
+            LaneFault::LaneBusy => "lane busy",
+            LaneFault::LaneIdle => "lane idle",
+            LaneFault::LaneNotFound => "lane not found",
+            LaneFault::NoMemory => "out of memory",
+        })
+    }
+}
+
+impl Error for LaneFault {}
 
 impl From<NoMemory> for LaneFault {
     ghost use Rattle.std.specs.Prelude.{◌≡◌};
