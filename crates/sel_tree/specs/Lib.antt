@@ -1,0 +1,3 @@
+pub mod FirstMet
+pub mod inner
+pub mod laws

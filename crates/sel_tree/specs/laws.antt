@@ -1,0 +1,2 @@
+-- What follows from the definition of the first box that meets another.
+pub mod FirstMetLaws
