@@ -5,12 +5,14 @@ use crate::trees::{Node, Trees};
 use sel_box::{AnyBox, AxisName, OfFamily};
 use std::alloc::Global;
 
+// How many parts of a mean width are counted.
+const PARTS: u128 = 1024;
+
 // Trees for a list of boxes. What they are good for is found out by a check, so that nothing is
 // promised of them here.
 //
-// Each node has the middle one of the boxes of its part on the axis on which their low values
-// differ most, and below it first those before and then those behind. So a tree is as deep as the
-// logarithm of the count.
+// Each node has the middle one of the boxes of its part on the widest axis, and below it first those
+// before and then those behind. So a tree is as deep as the logarithm of the count.
 pub fn trees_for(alloc: Global, regions: &[AnyBox]) -> Result<Trees, NoMemory> {
     let mut trees = Trees::none(alloc);
     for (index, region) in regions.iter().enumerate() {
@@ -85,7 +87,7 @@ fn middle_first<R: OfFamily>(nodes: &mut [Node<R>])
     nodes.swap(0, middle);
 }
 
-// The axis on which the low values differ most.
+// The axis on which the low values lie apart by most, for the mean width of the boxes.
 fn widest_axis<R: OfFamily>(nodes: &[Node<R>]) -> AxisName {
     let mut widest = AxisName::Local;
     let mut most = 0;
@@ -105,16 +107,21 @@ fn widest_axis<R: OfFamily>(nodes: &[Node<R>]) -> AxisName {
     widest
 }
 
-// How far the low values on an axis lie apart.
+// How far the low values on an axis lie apart, in parts of the mean width of the boxes.
 fn spread_on<R: OfFamily>(nodes: &[Node<R>], axis: AxisName) -> u128 {
     let mut least = u128::MAX;
-    let mut greatest = 0;
+    let mut greatest = 0u128;
+    let mut widths = 0u128;
     for node in nodes {
-        let low = low_of(node, axis);
+        let region = node.hull.region();
+        let low = region.low_of(axis);
         least = least.min(low);
         greatest = greatest.max(low);
+        widths = widths.saturating_add(region.high_of(axis).saturating_sub(low));
     }
-    greatest.saturating_sub(least)
+    let spread = greatest.saturating_sub(least);
+    let mean = widths / (nodes.len() as u128 + 1);
+    spread.saturating_mul(PARTS) / mean.saturating_add(1)
 }
 
 // The low value of the node's box on an axis.
