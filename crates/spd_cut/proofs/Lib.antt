@@ -5,6 +5,7 @@ pub mod FirstLines
 pub mod Gathered
 pub mod Groups
 pub mod Loops
+pub mod Ordered
 pub mod Passed
 pub mod PolicyLaws
 pub mod Standing

@@ -1,6 +1,7 @@
 //! What the definitions of entries come to, each law the contract of a function that does nothing.
 
 ghost use Rattle.std.specs.Prelude.{◌≡◌, ◌↔◌, ℕ, List, None, Some, All, IsTrue, count_by};
+ghost use Rattle.std.specs.List.Sorted.{IsNonDecreasingBy};
 ghost use Rattle.sel_box.specs.declared.packet.Direction.{Direction};
 ghost use Rattle.sel_box.specs.Packet.{PacketFields, is_packet};
 ghost use Rattle.sel_box.specs.Point.{view_of};
@@ -21,6 +22,13 @@ pub fn entries_stand_for()
     spd_line::laws::final_boxes_hold_all();
     spd_line::laws::the_first_line_is_the_least();
 }
+
+/// The entries of a policy come in the order of their lines: those of one line stand next to one
+/// another, behind those of earlier lines.
+pub fn entries_come_in_the_order_of_lines()
+    ensures { (d : Direction) (lines : List LineParts)
+        → IsNonDecreasingBy (λ entry. entry.link) (entries d lines) }
+{}
 
 /// Where entries stand for a policy, exactly one has the view of a packet in their direction. It is
 /// linked to the first line that selects the view, and judged as that line judges it.
