@@ -48,11 +48,17 @@ impl BoxTree {
     {
         let mut list = RegionList::new(alloc);
         list.extend(regions)?;
-        let trees = checked(alloc, regions, trees_for(alloc, regions)?)?;
-        Ok(BoxTree {
-            regions: list,
-            trees,
-        })
+        BoxTree::from_list(alloc, list)
+    }
+
+    /// The boxes of a list, in order, which stays as it is: memory is taken for the nodes alone, and
+    /// time as by `new`.
+    pub fn from_list(alloc: Global, regions: RegionList) -> Result<BoxTree, NoMemory>
+        ensures { IfOk result (λ tree. tree ≡ regions) }
+    {
+        let trees = trees_for(alloc, regions.as_slice())?;
+        let trees = checked(alloc, regions.as_slice(), trees)?;
+        Ok(BoxTree { regions, trees })
     }
 
     /// The least index, from one on, of a box that meets the region; `None` exactly where there is
