@@ -1,0 +1,7 @@
+mod Agrees
+mod Feeds
+mod Forms
+mod Gathers
+mod Scans
+mod Sides
+mod Verdicts

@@ -1,0 +1,9 @@
+use Rattle.std.proofs.Common.{◌≡◌, ◌++◌, take}
+use Rattle.cert_check.specs.inner.Gathered.{marks_in, regions_in, row_seen}
+use Rattle.cert_check.proofs.boxes.Boxes.add_row.Given as goal
+
+abbrev pub invariant-loop-part : goal.invariant-loop-part
+invariant-loop-part l = record {
+  regions : l.self.regions.items ≡ l.initial.self.regions.items ++ regions_in (row_seen l.gateway (take l.part-index l.row));
+  marks : l.self.marks.items ≡ l.initial.self.marks.items ++ marks_in l.place (row_seen l.gateway (take l.part-index l.row));
+}

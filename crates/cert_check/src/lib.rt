@@ -1,0 +1,15 @@
+//! The checker of certificates: whether one shows that two policies agree (RFC 4301 section 5).
+#![tactic(auto)]
+
+pub use answer::{CheckFault, Checked};
+pub use checking::check;
+pub use lists::NoMemory;
+
+mod answer;
+mod boxes;
+mod checking;
+mod gateway;
+pub mod laws;
+mod rule;
+mod side;
+mod todo;
