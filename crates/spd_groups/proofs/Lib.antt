@@ -1,3 +1,4 @@
 pub mod Answered
 pub mod Keyed
+pub mod Linked
 pub mod Looks

@@ -1,5 +1,6 @@
-ghost use Rattle.std.specs.Prelude.{◌≡◌, ◌≤◌, Contains, IfOk, IsTrue, length, map, true};
-ghost use Rattle.std.specs.List.{list_any};
+ghost use Rattle.std.specs.Prelude.{◌≡◌, ◌≤◌, ◌==◌, Contains, IfOk, IsTrue, length, map, true};
+ghost use Rattle.std.specs.List.{filter, list_any};
+ghost use Rattle.std.specs.List.Sorted.{IsNonDecreasingBy};
 ghost use Rattle.sel_box.specs.Point.{IsReal};
 ghost use Rattle.spd_line.specs.First.{first_place, line_at};
 ghost use Rattle.spd_line.specs.Policy.{IsPolicy, most_lines};
@@ -30,7 +31,7 @@ pub struct Looked {
 /// sections 4.4.2 and 5.1).
 ///
 /// The entries are those of the policy in the direction, and the finder's boxes are theirs, in
-/// their order. Takes the time of the finder and one pass over the entries, and memory for the
+/// their order. Takes the time of the finder and of the group's own entries, and memory for the
 /// group.
 pub fn look<L: Lines, F: Finder>(
     alloc: Global,
@@ -47,11 +48,13 @@ pub fn look<L: Lines, F: Finder>(
     ensures { IfOk result (λ found. found ≡ looked direction point.now (L.lines lines.now)) }
 {
     spd_cut::laws::entries_stand_for();
+    spd_cut::laws::entries_come_in_the_order_of_lines();
     spd_cache::laws::names_tell_their_lines();
     spd_line::laws::the_first_line_is_the_least();
     let entry = entry_of(list, finder, point);
     let key = key_at(lines, entry.link, direction, point);
-    let group = spd_cut::group(alloc, list, entry.link, &key.pins)?;
+    let own = linked_to(list, entry.link);
+    let group = spd_cut::group(alloc, own, entry.link, &key.pins)?;
     let answer = Answer {
         name: key.name,
         judgement: entry.judgement,
@@ -71,6 +74,18 @@ fn entry_of<'a, F: Finder>(list: &'a [Entry], finder: &F, point: &Point) -> &'a 
         Some(index) => &list[index],
         None => unreachable!(),
     }
+}
+
+// The entries that are linked to a line, among some that come in the order of their lines. They are
+// found by halving.
+fn linked_to(list: &[Entry], link: u32) -> &[Entry]
+    requires { IsNonDecreasingBy (λ entry. entry.link) list.now }
+    ensures { result.now ≡ filter (λ entry. entry.link == link) list.now }
+{
+    let first = list.partition_point(|entry| entry.link < link);
+    let rest = &list[first..];
+    let count = rest.partition_point(|entry| entry.link <= link);
+    &rest[..count]
 }
 
 // The key of a point whose first line stands at the place.
