@@ -2,12 +2,14 @@
 #![tactic(auto)]
 
 pub use finder::Finder;
+pub use indexed::Indexed;
 pub use lists::NoMemory;
 pub use plain::Plain;
 pub use steps::Steps;
 pub use uncounted::find_uncounted;
 
 mod finder;
+mod indexed;
 pub mod laws;
 mod plain;
 mod steps;
