@@ -1,3 +1,4 @@
 pub mod Hits
 pub mod Kept
 pub mod Named
+pub mod Widened

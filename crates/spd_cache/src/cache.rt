@@ -4,6 +4,7 @@ ghost use Rattle.std.specs.Map.{lookup};
 ghost use Rattle.spd_cache.specs.Cached.{IsCache, cached, first_hit, fronted, kept};
 ghost use Rattle.spd_cache.specs.Key.{same_key};
 
+use crate::hulled::HulledGroup;
 use crate::look::first_hit;
 use crate::{Key, NoMemory};
 use lru::LruCache;
@@ -20,7 +21,7 @@ pub const MOST_GROUPS: usize = 4096;
 /// list of its keys and groups, the most recently used first, and how many it holds at most.
 #[derive(Drop)]
 pub struct Cache {
-    groups: LruCache<Key, Group>,
+    groups: LruCache<Key, HulledGroup>,
 }
 
 impl Model for Cache {
@@ -48,8 +49,10 @@ impl Cache {
 
     /// The answer of the first group of the direction that has the point: the name in its key, and
     /// the judgement of its first box that has it. That group is then the most recently used.
-    /// `None` exactly where no group of the direction has the point, and nothing changes then. It
-    /// looks at each group of the direction once at most, and takes no memory.
+    /// `None` exactly where no group of the direction has the point, and nothing changes then.
+    ///
+    /// It looks at each group of the direction once at most, and takes no memory: one test passes
+    /// over a group where the point lies in no hull of its boxes.
     pub fn probe(&mut self, direction: Direction, point: &Point) -> Option<Answer>
         ensures answer { result
             ≡ option_map (λ found. found.1) (first_hit direction point.now self.old.entries) }
@@ -76,10 +79,11 @@ impl Cache {
         ensures there { IsSome (lookup (same_key key) self.old.entries) → IsOk result }
     {
         let _ = self.groups.len();
-        match self.groups.put(key, group) {
+        match self.groups.put(key, HulledGroup::new(group)) {
             Ok(_) => Ok(()),
             Err(failed) => {
-                let (key, group) = failed.value;
+                let (key, hulled) = failed.value;
+                let group = hulled.into_group();
                 Err(KeepRefused { key, group })
             }
         }

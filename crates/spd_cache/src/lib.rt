@@ -7,6 +7,8 @@ pub use key::Key;
 pub use lists::NoMemory;
 
 mod cache;
+mod hulled;
+mod hulls;
 mod key;
 pub mod laws;
 mod look;

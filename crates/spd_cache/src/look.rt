@@ -1,15 +1,15 @@
 ghost use Rattle.std.specs.Prelude.{◌≡◌};
-ghost use Rattle.std.specs.Option.{option_copied};
-ghost use Rattle.spd_cache.specs.Cached.{first_box, first_hit};
+ghost use Rattle.spd_cache.specs.Cached.{first_hit};
 
 use crate::Key;
+use crate::hulled::HulledGroup;
 use lru::LruCache;
-use sel_box::{Direction, Point, Region};
-use spd_line::{Answer, Group, LineBox};
+use sel_box::{Direction, Point};
+use spd_line::Answer;
 
 // The answer of the first group of the direction that has the point, and the key of that group.
 pub fn first_hit(
-    groups: &LruCache<Key, Group>,
+    groups: &LruCache<Key, HulledGroup>,
     direction: Direction,
     point: &Point,
 ) -> Option<(Key, Answer)>
@@ -17,7 +17,7 @@ pub fn first_hit(
 {
     for (key, group) in groups {
         if key.direction == direction {
-            if let Some(found) = first_box(group, point) {
+            if let Some(found) = group.first_box(point) {
                 let answer = Answer {
                     name: key.name,
                     judgement: found.judgement,
@@ -27,11 +27,4 @@ pub fn first_hit(
         }
     }
     None
-}
-
-// The first box of a group that has the point.
-fn first_box<'a>(group: &'a Group, point: &Point) -> Option<&'a LineBox>
-    ensures { option_copied result ≡ first_box point.now group.now }
-{
-    group.iter().find(|part| part.region.has(point))
 }

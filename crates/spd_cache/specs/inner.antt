@@ -1,0 +1,2 @@
+-- What is kept inside. No public clause cites this.
+pub mod Hulls
