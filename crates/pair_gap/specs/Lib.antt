@@ -1,0 +1,5 @@
+pub mod Gap
+pub mod LeastPacketOf
+pub mod LeastGap
+pub mod GapRegions
+pub mod inner
