@@ -87,7 +87,8 @@ impl Compiled {
 
     /// What the policy says of a real point in a direction: the name and the judgement of its first
     /// line, found among the entries, with the point's key and that key's group (RFC 4301 sections
-    /// 4.4.2 and 5.1). Takes time by the number of entries, and memory for the group.
+    /// 4.4.2 and 5.1). Takes the time of the index to find the point, and time and memory for the
+    /// group.
     pub fn look(&self, direction: Direction, point: &Point) -> Result<Looked, NoMemory>
         requires { IsReal point.now }
         ensures { IfOk result (λ found. found ≡ looked direction point.now self.now.lines) }

@@ -7,15 +7,15 @@ use crate::CompileFault;
 use lists::NoMemory;
 use sel_box::{Direction, RegionList};
 use spd_cut::{CutFault, Entry, EntryList, decorrelate};
-use spd_find::Plain;
+use spd_find::Indexed;
 use spd_line::Lines;
 use std::alloc::Global;
 
-// The entries of a policy in a direction, and their regions to be looked at, in the same order.
+// The entries of a policy in a direction, and an index of their regions, in the same order.
 #[derive(Debug, Drop)]
 pub struct Cut {
     pub entries: EntryList,
-    pub finder: Plain,
+    pub finder: Indexed,
 }
 
 // Those of both directions.
@@ -71,13 +71,13 @@ fn entries_of<L: Lines>(
     }
 }
 
-// The regions of some entries, to be looked at.
-fn finder_of(alloc: Global, entries: &[Entry]) -> Result<Plain, NoMemory>
+// An index of the regions of some entries.
+fn finder_of(alloc: Global, entries: &[Entry]) -> Result<Indexed, NoMemory>
     ensures { IfOk result (λ finder. finder ≡ regions entries.now) }
 {
     let mut list = RegionList::new(alloc);
     for entry in entries {
         list.push(entry.region)?;
     }
-    Plain::new(alloc, list.as_slice())
+    Indexed::from_list(alloc, list)
 }
