@@ -25,9 +25,10 @@ use std::alloc::Global;
 /// before those under it: a tree over all of IPv4, then one over all of IPv6. The form of the whole
 /// text comes first: `CertFault` comes exactly where a line isn't in the grammar, which
 /// `cert_text::read_node` has, is missing, or is one too many, with the number of the first such
-/// line from 1. Then come the nodes, in order: `Rejected` comes exactly with the number of the first
-/// that doesn't hold, from 1. A split holds where it cuts its box in two; a leaf where the line of either policy
-/// decides its box and both judge it alike; `void` where its box has no packet.
+/// line from 1. Then come the nodes, in order: `Rejected` comes exactly with the number of the
+/// first that doesn't hold, from 1. A split holds where it cuts its box in two; a leaf where the
+/// line of either policy decides its box and both judge it alike; `void` where its box has no
+/// packet.
 ///
 /// Gathers the boxes of both policies once, in n log n time and memory for each box. Then it looks
 /// for a leaf at the boxes of two lines that meet its box, found in a tree of all boxes. It takes

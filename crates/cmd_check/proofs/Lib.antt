@@ -1,0 +1,2 @@
+mod Agreed
+mod Counts
