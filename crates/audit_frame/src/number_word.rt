@@ -1,4 +1,4 @@
-ghost use Rattle.std.specs.Prelude.{◌≡◌};
+ghost use Rattle.std.specs.Prelude.{◌≡◌, ◌≤◌, IfSome};
 ghost use Rattle.audit_frame.specs.Words.{count_in, most_limit};
 
 use sel_text::read_number;
@@ -10,7 +10,9 @@ pub const MOST_LIMIT: u32 = 200_000;
 /// memory, and time in proportion to the word.
 #[tactic(auto, unfolding(crate::specs::Words::count_in))]
 pub fn read_count(word: &str, most: u32) -> Option<u32>
-    ensures { result ≡ count_in most word.now }
+    ensures count { result ≡ count_in most word.now }
+    ensures some { IfSome result (λ count. 1 ≤ count) }
+    ensures few { IfSome result (λ count. count ≤ most) }
 {
     match read_number(word.as_bytes(), u128::from(most)) {
         Ok(0) | Err(_) => None,

@@ -7,6 +7,7 @@ ghost use Rattle.spd_cut.specs.Entries.{entries};
 ghost use Rattle.spd_cut.specs.StandsFor.{AreLinked};
 ghost use Rattle.spd_cut.specs.Steps.{first_over, steps};
 ghost use Rattle.spd_file.specs.Policy.{policy_meaning};
+ghost use Rattle.spd_line.specs.Policy.{IsPolicy};
 
 use crate::{NamedFile, Refusal, load_file};
 use pair_io::Files;
@@ -31,6 +32,7 @@ pub fn load_policy<F: Files>(
     ensures lines { IfOk result (λ lines. IfSome (F.told files.old file.now.name)
         (λ content. policy_meaning content ≡ Ok lines)) }
     ensures few { IfOk result (λ lines. length lines ≤ 4096) }
+    ensures policy { IfOk result IsPolicy }
     ensures refused { IfErr result (PolicyCauses (policy_file file.now)
         (F.told files.old)
         (reads (F.faults files.old) (F.taken files.old) (F.end files.old))
