@@ -85,6 +85,24 @@ pub enum LaneFault {
     NoMemory,
 }
 
+impl LaneFault {
+    ghost use Rattle.std.specs.Prelude.{◌≡◌, ◌≤◌, length};
+    ghost use Rattle.spd_lanes.specs.Faults.{lane_fault_text};
+
+    /// What is printed of it.
+    pub fn as_str(self) -> &'static str
+        ensures text { result.now ≡ lane_fault_text self }
+        ensures short { length result.now ≤ 14 }
+    {
+        match self {
+            LaneFault::LaneBusy => "lane busy",
+            LaneFault::LaneIdle => "lane idle",
+            LaneFault::LaneNotFound => "lane not found",
+            LaneFault::NoMemory => "out of memory",
+        }
+    }
+}
+
 impl fmt::Display for LaneFault {
     ghost use Rattle.std.specs.Prelude.{Some};
     ghost use Rattle.spd_lanes.specs.Faults.{lane_fault_text};
@@ -92,12 +110,7 @@ impl fmt::Display for LaneFault {
     ghost output = { λ fault. Some (lane_fault_text fault) };
 
     fn fmt<W: fmt::Write>(&self, f: &mut fmt::Formatter<W>) -> fmt::Result {
-        f.write_str(match self {
-            LaneFault::LaneBusy => "lane busy",
-            LaneFault::LaneIdle => "lane idle",
-            LaneFault::LaneNotFound => "lane not found",
-            LaneFault::NoMemory => "out of memory",
-        })
+        f.write_str(self.as_str())
     }
 }
 

@@ -1,3 +1,6 @@
+ghost use Rattle.std.specs.Prelude.{◌≡◌, ◌≤◌, length};
+ghost use Rattle.spd_order.specs.Fault.{order_fault_text};
+
 use spd_line::Line;
 use std::alloc::AllocError;
 use std::error::Error;
@@ -18,6 +21,22 @@ pub enum OrderFault {
     NoMemory,
 }
 
+impl OrderFault {
+    /// What is printed of it.
+    pub fn as_str(self) -> &'static str
+        ensures text { result.now ≡ order_fault_text self }
+        ensures short { length result.now ≤ 14 }
+    {
+        match self {
+            OrderFault::TooManyLines => "too many lines",
+            OrderFault::NoSuchName => "no such name",
+            OrderFault::NameTaken => "name taken",
+            OrderFault::BadPlace => "bad place",
+            OrderFault::NoMemory => "out of memory",
+        }
+    }
+}
+
 impl fmt::Display for OrderFault {
     ghost use Rattle.std.specs.Prelude.{Some};
     ghost use Rattle.spd_order.specs.Fault.{order_fault_text};
@@ -25,13 +44,7 @@ impl fmt::Display for OrderFault {
     ghost output = { λ fault. Some (order_fault_text fault) };
 
     fn fmt<W: fmt::Write>(&self, f: &mut fmt::Formatter<W>) -> fmt::Result {
-        f.write_str(match self {
-            OrderFault::TooManyLines => "too many lines",
-            OrderFault::NoSuchName => "no such name",
-            OrderFault::NameTaken => "name taken",
-            OrderFault::BadPlace => "bad place",
-            OrderFault::NoMemory => "out of memory",
-        })
+        f.write_str(self.as_str())
     }
 }
 
