@@ -4,6 +4,7 @@ use std::alloc::Global;
 use std::test::Fail;
 
 mod decorrelate;
+mod gateways;
 mod judge;
 
 // Files, each behind a line with its name.
