@@ -49,7 +49,14 @@ fn main(rt: HostRuntime) -> ExitCode {
     let mut out = RealSink::in_blocks(rt.stdout());
     let mut err = RealSink::new(rt.stderr());
     let outcome = match words(&rt) {
-        Ok(words) => audit_top::run(rt.alloc(), &words, &mut files, &mut out, &mut err),
+        Ok(words) => audit_top::run(
+            rt.alloc(),
+            &words,
+            &mut files,
+            &mut out,
+            &mut err,
+            &mut None,
+        ),
         Err(outcome) => {
             audit_top::report(&outcome, &mut err);
             outcome

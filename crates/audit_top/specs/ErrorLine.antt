@@ -4,9 +4,11 @@ use Rattle.sel_box.specs.declared.packet.Direction.{Direction}
 use Rattle.spd_file.specs.declared.fault.PolicyFault.{PolicyFault}
 use Rattle.spd_file.specs.Fault.{policy_fault_text}
 use Rattle.spd_text.specs.DirectionText.{direction_text}
+use Rattle.spd_lanes.specs.Faults.{lane_fault_text}
+use Rattle.spd_order.specs.Fault.{order_fault_text}
 use Rattle.trace_text.specs.Fault.{event_fault_text}
 use Rattle.audit_top.specs.declared.outcome.Outcome.{Outcome}
-use Rattle.cmd_judge.specs.declared.command.TraceFault.{TraceFault}
+use Rattle.audit_top.specs.declared.trace_fault.TraceFault.{TraceFault}
 
 -- A refusal of the file that a word names.
 abbrev pub word_line : ℕ → List ℕ → List ℕ
@@ -20,6 +22,9 @@ policy_line word fault = word_line word (codes ": policy: " ++ (policy_fault_tex
 abbrev pub trace_fault_text : TraceFault → List ℕ
 trace_fault_text (TraceFault.Text fault) = event_fault_text fault
 trace_fault_text TraceFault.OnlyPackets = codes "only packets"
+trace_fault_text (TraceFault.Table fault) = codes "table: " ++ policy_fault_text fault
+trace_fault_text (TraceFault.Lane fault) = lane_fault_text fault
+trace_fault_text (TraceFault.Edit fault) = order_fault_text fault
 
 -- A refusal of a trace line.
 abbrev pub trace_line : ℕ → TraceFault → List ℕ

@@ -1,8 +1,13 @@
 -- How a run ends.
-use Rattle.std.specs.Prelude.{ℕ, Result, Ok, Err}
+use Rattle.std.specs.Prelude.{ℕ, Option, Some, None, Result, Ok, Err}
 use Rattle.audit_frame.specs.declared.refusal.Refusal.{Refusal}
 use Rattle.cmd_judge.specs.declared.command.JudgeEnd.{JudgeEnd}
+use Rattle.cmd_judge.specs.declared.command.TraceFault.{TraceFault as JudgeFault}
+use Rattle.cmd_replay.specs.declared.command.ReplayEnd.{ReplayEnd}
+use Rattle.cmd_replay.specs.declared.fault.TraceFault.{TraceFault as ReplayFault}
+use Rattle.spd_lanes.specs.Machine.{Machine}
 use Rattle.audit_top.specs.declared.outcome.Outcome.{Outcome}
+use Rattle.audit_top.specs.declared.trace_fault.TraceFault.{TraceFault}
 
 -- The outcome of a refusal that any command may have.
 abbrev pub refused : Refusal → Outcome
@@ -23,10 +28,30 @@ ended_by Outcome.WriteFault = Err Refusal.WriteFault
 ended_by Outcome.NoMemory = Err Refusal.NoMemory
 ended_by outcome = Ok outcome
 
+-- A trace line's fault that `judge` found, and one that `replay` found.
+abbrev pub judge_fault : JudgeFault → TraceFault
+judge_fault (JudgeFault.Text fault) = TraceFault.Text fault
+judge_fault JudgeFault.OnlyPackets = TraceFault.OnlyPackets
+
+abbrev pub replay_fault : ReplayFault → TraceFault
+replay_fault (ReplayFault.Text fault) = TraceFault.Text fault
+replay_fault (ReplayFault.Table fault) = TraceFault.Table fault
+replay_fault (ReplayFault.Lane fault) = TraceFault.Lane fault
+replay_fault (ReplayFault.Edit fault) = TraceFault.Edit fault
+
 -- The outcome of an end of `judge`.
 abbrev pub judged : JudgeEnd → Outcome
 judged JudgeEnd.Done = Outcome.Done
-judged (JudgeEnd.TraceFault line fault) = Outcome.TraceFault line fault
+judged (JudgeEnd.TraceFault line fault) = Outcome.TraceFault line (judge_fault fault)
+
+-- The outcome of an end of `replay`, and the machine that it leaves.
+abbrev pub replayed : ReplayEnd → Outcome
+replayed (ReplayEnd.Done m) = Outcome.Done
+replayed (ReplayEnd.TraceFault line fault) = Outcome.TraceFault line (replay_fault fault)
+
+abbrev pub left_by : ReplayEnd → Option Machine
+left_by (ReplayEnd.Done m) = Some m
+left_by (ReplayEnd.TraceFault line fault) = None
 
 -- The exit status of each outcome.
 abbrev pub status_of : Outcome → ℕ

@@ -1,14 +1,16 @@
-ghost use Rattle.std.specs.Prelude.{◌≡◌, ◌≢◌};
+ghost use Rattle.std.specs.Prelude.{◌≡◌, ◌≢◌, None, Some};
 ghost use Rattle.audit_frame.specs.Causes.{reads};
 ghost use Rattle.audit_frame.specs.Runs.{Runs};
-ghost use Rattle.audit_top.specs.Command.{Means, answer_of, command_in, files_of};
-ghost use Rattle.audit_top.specs.Outcome.{ended_by};
+ghost use Rattle.audit_top.specs.Command.{IsKept, Means, answer_of, command_in, files_of};
+ghost use Rattle.audit_top.specs.Outcome.{ended_by, left_by, replayed};
 ghost use Rattle.audit_top.specs.declared.outcome.Outcome.{Outcome};
 
-use crate::Outcome;
+use crate::{Outcome, TraceFault};
 use cmd_decorrelate::Decorrelate;
 use cmd_judge::Judge;
+use cmd_replay::{Replay, ReplayEnd};
 use pair_io::{Files, Sink, WordList};
+use spd_lanes::Shared;
 use std::alloc::Global;
 
 // A command with its words.
@@ -16,6 +18,7 @@ use std::alloc::Global;
 pub enum Command<'a> {
     Judge(Judge<'a>),
     Decorrelate(Decorrelate<'a>),
+    Replay(Replay<'a>),
 }
 
 impl<'a> Command<'a> {
@@ -26,11 +29,21 @@ impl<'a> Command<'a> {
         if let Some(judge) = Judge::from_words(words) {
             return Some(Command::Judge(judge));
         }
-        Decorrelate::from_words(words).map(Command::Decorrelate)
+        if let Some(decorrelate) = Decorrelate::from_words(words) {
+            return Some(Command::Decorrelate(decorrelate));
+        }
+        Replay::from_words(words).map(Command::Replay)
     }
 
-    // Runs the command.
-    pub fn run<F: Files, O: Sink>(&self, alloc: Global, files: &mut F, out: &mut O) -> Outcome
+    // Runs the command. A machine that ran to the end of a trace is kept.
+    pub fn run<F: Files, O: Sink>(
+        &self,
+        alloc: Global,
+        files: &mut F,
+        out: &mut O,
+        kept: &mut Option<Shared>,
+    ) -> Outcome
+        requires { kept.old ≡ None }
         ensures runs { Runs (answer_of (F.told files.old) self.now) (files_of self.now)
             (F.told files.old)
             (reads (F.faults files.old) (F.taken files.old) (F.end files.old))
@@ -39,6 +52,7 @@ impl<'a> Command<'a> {
             (ended_by result) }
         ensures own { result ≢ Outcome.Usage }
         ensures means { Means (F.told files.old) (O.told out.old) (O.told out.new) result self.now }
+        ensures kept { IsKept (F.told files.old) (Some self.now) result kept.new }
     {
         match self {
             Command::Judge(judge) => {
@@ -55,6 +69,31 @@ impl<'a> Command<'a> {
                     Err(refusal) => Outcome::from(refusal),
                 }
             }
+            Command::Replay(replay) => {
+                cmd_replay::laws::each_event_is_answered();
+                match replay.run(alloc, files, out) {
+                    Ok(end) => keep(end, kept),
+                    Err(refusal) => Outcome::from(refusal),
+                }
+            }
         }
+    }
+}
+
+// The outcome of an end of `replay`; where it is done, the machine is kept.
+fn keep(end: ReplayEnd, kept: &mut Option<Shared>) -> Outcome
+    requires { kept.old ≡ None }
+    ensures outcome { result ≡ replayed end }
+    ensures kept { kept.new ≡ left_by end }
+{
+    match end {
+        ReplayEnd::Done(machine) => {
+            *kept = Some(machine);
+            Outcome::Done
+        }
+        ReplayEnd::TraceFault { line, fault } => Outcome::TraceFault {
+            line,
+            fault: TraceFault::from(fault),
+        },
     }
 }

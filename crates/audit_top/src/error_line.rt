@@ -1,4 +1,4 @@
-ghost use Rattle.std.specs.Prelude.{◌≡◌, ◌≤◌, length, map, option_map};
+ghost use Rattle.std.specs.Prelude.{◌≡◌, ◌≤◌, ◌++◌, codes, decimal, length, map, option_map};
 ghost use Rattle.audit_frame.specs.Answer.{text_of};
 ghost use Rattle.audit_top.specs.ErrorLine.{error_line, limit_line, policy_line, trace_line};
 ghost use Rattle.audit_top.specs.ErrorLine.{word_line};
@@ -74,15 +74,28 @@ fn line_of_policy(word: u32, fault: &PolicyFault) -> ErrorLine
 fn line_of_trace(line: u64, fault: &TraceFault) -> ErrorLine
     ensures { result.bytes ≡ trace_line line fault.now }
 {
-    let mut digits = Buffer::new();
-    let line = digits.format(line);
     match fault {
-        TraceFault::Text(fault) => {
-            let fault = fault.text();
-            joined(&["error: trace line ", line, ": ", fault.as_str(), "\n"])
-        }
-        TraceFault::OnlyPackets => joined(&["error: trace line ", line, ": only packets\n"]),
+        TraceFault::Text(fault) => line_of_cause(line, ": ", fault.text().as_str()),
+        TraceFault::OnlyPackets => line_of_cause(line, ": ", "only packets"),
+        TraceFault::Table(fault) => line_of_cause(line, ": table: ", fault.text().as_str()),
+        TraceFault::Lane(fault) => line_of_cause(line, ": ", fault.as_str()),
+        TraceFault::Edit(fault) => line_of_cause(line, ": ", fault.as_str()),
     }
+}
+
+fn line_of_cause(line: u64, mark: &str, cause: &str) -> ErrorLine
+    requires mark { length mark.now ≤ 9 }
+    requires cause { length cause.now ≤ 64 }
+    ensures { result.bytes
+        ≡ codes "error: trace line " ++ (decimal line ++ (mark.now ++ (cause.now ++ codes "\n"))) }
+{
+    joined(&[
+        "error: trace line ",
+        Buffer::new().format(line),
+        mark,
+        cause,
+        "\n",
+    ])
 }
 
 fn line_of_limit(word: u32, direction: Direction, line: u32, at: Option<u64>) -> ErrorLine

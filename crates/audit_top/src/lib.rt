@@ -2,9 +2,9 @@
 //! it writes and the outcome that it ends with.
 #![tactic(auto)]
 
-pub use cmd_judge::TraceFault;
 pub use outcome::{Outcome, status};
 pub use running::{report, run};
+pub use trace_fault::TraceFault;
 
 mod command;
 mod error_line;
@@ -12,3 +12,4 @@ mod outcome;
 mod running;
 #[cfg(test)]
 mod tests;
+mod trace_fault;

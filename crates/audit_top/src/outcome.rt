@@ -1,8 +1,9 @@
 ghost use Rattle.std.specs.Prelude.{◌≡◌};
 ghost use Rattle.audit_top.specs.Outcome.{status_of};
 
+use crate::TraceFault;
 use audit_frame::Refusal;
-use cmd_judge::{JudgeEnd, TraceFault};
+use cmd_judge::JudgeEnd;
 use pair_io::NoMemory;
 use sel_box::Direction;
 use spd_file::PolicyFault;
@@ -95,7 +96,10 @@ impl From<JudgeEnd> for Outcome {
     fn from(end: JudgeEnd) -> Outcome {
         match end {
             JudgeEnd::Done => Outcome::Done,
-            JudgeEnd::TraceFault { line, fault } => Outcome::TraceFault { line, fault },
+            JudgeEnd::TraceFault { line, fault } => Outcome::TraceFault {
+                line,
+                fault: TraceFault::from(fault),
+            },
         }
     }
 }

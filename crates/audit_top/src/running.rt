@@ -1,7 +1,7 @@
 ghost use Rattle.std.specs.Prelude.{◌≡◌, ◌↔◌, IfSome, None};
 ghost use Rattle.audit_frame.specs.Causes.{reads};
 ghost use Rattle.audit_frame.specs.Runs.{Runs};
-ghost use Rattle.audit_top.specs.Command.{Means, answer_of, command_in, files_of};
+ghost use Rattle.audit_top.specs.Command.{IsKept, Means, answer_of, command_in, files_of};
 ghost use Rattle.audit_top.specs.Outcome.{ended_by};
 ghost use Rattle.audit_top.specs.Reports.{Reports};
 ghost use Rattle.audit_top.specs.declared.outcome.Outcome.{Outcome};
@@ -10,6 +10,7 @@ use crate::Outcome;
 use crate::command::Command;
 use crate::error_line::error_line_of;
 use pair_io::{Files, Sink, WordList, write_all};
+use spd_lanes::Shared;
 use std::alloc::Global;
 
 /// Runs the command of the words, and says how it ended. `judge POLICY TRACE` writes for each
@@ -17,7 +18,8 @@ use std::alloc::Global;
 /// and 5);
 /// `decorrelate LIMIT POLICY` writes the entries that stand for the policy, of which no two of a
 /// direction have a point in common, as SPD-S, SPD-O and SPD-I (RFC 4301 section 4.4.1 and
-/// Appendix B); no other words are a command.
+/// Appendix B); `replay LIMIT CACHE POLICY TRACE` gives each event of the trace to the shared
+/// machine of the policy, and writes its reply; no other words are a command.
 ///
 /// Where the files tell their contents, the outcome and the text on `out` are the command's answer.
 /// A run that ends out of memory or at a write leaves a prefix of that text, and one that ends at
@@ -26,13 +28,18 @@ use std::alloc::Global;
 /// For an outcome that is a refusal one line is put to `err`, without memory; where that fails, the
 /// outcome stays.
 ///
-/// Each command says its cost: `cmd_judge::Judge::run`, `cmd_decorrelate::Decorrelate::run`.
+/// After a replay that is done, `kept` holds the machine that ran, in its state after the last
+/// event. After every other outcome and command it holds none, whatever it held before.
+///
+/// Each command says its cost: `cmd_judge::Judge::run`, `cmd_decorrelate::Decorrelate::run`,
+/// `cmd_replay::Replay::run`.
 pub fn run<F: Files, O: Sink, E: Sink>(
     alloc: Global,
     words: &WordList,
     files: &mut F,
     out: &mut O,
     err: &mut E,
+    kept: &mut Option<Shared>,
 ) -> Outcome
     // The words are no command's.
     ensures usage { command_in words.now ≡ None ↔ result ≡ Outcome.Usage }
@@ -45,15 +52,19 @@ pub fn run<F: Files, O: Sink, E: Sink>(
         (O.faults out.old) (O.faults out.new) (O.told out.old) (O.told out.new)
         (ended_by result)) }
 
-    // What that answer comes to, said of packets.
+    // What that answer comes to, said of packets and events.
     ensures means { IfSome (command_in words.now)
         (Means (F.told files.old) (O.told out.old) (O.told out.new) result) }
+
+    // The machine that is left.
+    ensures kept { IsKept (F.told files.old) (command_in words.now) result kept.new }
 
     // What is reported.
     ensures reports { Reports result
         (E.told err.old) (E.told err.new) (E.faults err.old) (E.faults err.new) }
 {
-    let outcome = perform(alloc, words, files, out);
+    *kept = None;
+    let outcome = perform(alloc, words, files, out, kept);
     report(&outcome, err);
     outcome
 }
@@ -63,7 +74,9 @@ fn perform<F: Files, O: Sink>(
     words: &WordList,
     files: &mut F,
     out: &mut O,
+    kept: &mut Option<Shared>,
 ) -> Outcome
+    requires { kept.old ≡ None }
     ensures usage { command_in words.now ≡ None ↔ result ≡ Outcome.Usage }
     ensures runs { IfSome (command_in words.now) (λ command.
         Runs (answer_of (F.told files.old) command) (files_of command) (F.told files.old)
@@ -73,13 +86,17 @@ fn perform<F: Files, O: Sink>(
         (ended_by result)) }
     ensures means { IfSome (command_in words.now)
         (Means (F.told files.old) (O.told out.old) (O.told out.new) result) }
+    ensures kept { IsKept (F.told files.old) (command_in words.now) result kept.new }
 {
     match Command::from_words(words) {
         Some(command) => {
-            let outcome = command.run(alloc, files, out);
+            let outcome = command.run(alloc, files, out, kept);
             match out.flush() {
                 Ok(()) => outcome,
-                Err(_) => Outcome::WriteFault,
+                Err(_) => {
+                    *kept = None;
+                    Outcome::WriteFault
+                }
             }
         }
         None => Outcome::Usage,

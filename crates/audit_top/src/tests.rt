@@ -1,11 +1,13 @@
 use crate::{run, status};
 use pair_io::{Bytes, FileList, MemFile, MemFiles, MemSink, NoMemory, NumberList, Text, WordList};
+use spd_lanes::Shared;
 use std::alloc::Global;
 use std::test::Fail;
 
 mod decorrelate;
 mod gateways;
 mod judge;
+mod replay;
 
 // Files, each behind a line with its name.
 const FILES: &str = "
@@ -144,6 +146,16 @@ fn failing(alloc: Global, failure: &str, kind: &str) -> Result<NumberList, Fail>
 // What comes of a run over some files: what `out` and `err` gain, and the status. The words may
 // have a failure behind them, as `! read 2` for the second read.
 fn ran(alloc: Global, files: FileList, call: &str) -> Result<String, Fail> {
+    ran_keeping(alloc, files, call, &mut None)
+}
+
+// The same, with the machine that the run keeps.
+fn ran_keeping(
+    alloc: Global,
+    files: FileList,
+    call: &str,
+    kept: &mut Option<Shared>,
+) -> Result<String, Fail> {
     let (words, failure) = call.split_once(" ! ").unwrap_or((call, ""));
     let mut files = MemFiles::new(files, failing(alloc, failure, "read ")?);
     let mut out = MemSink::new(alloc, 3000, failing(alloc, failure, "write ")?)?;
@@ -154,6 +166,7 @@ fn ran(alloc: Global, files: FileList, call: &str) -> Result<String, Fail> {
         &mut files,
         &mut out,
         &mut err,
+        kept,
     );
     let printed = std::str::from_utf8(out.as_slice())?;
     let reported = std::str::from_utf8(err.as_slice())?;
