@@ -31,6 +31,10 @@ abbrev pub trace_line : ℕ → TraceFault → List ℕ
 trace_line line fault =
     codes "error: trace line " ++ (decimal line ++ (codes ": " ++ (trace_fault_text fault ++ codes "\n")))
 
+-- A text that is no certificate.
+abbrev pub certificate_line : ℕ → List ℕ
+certificate_line line = codes "error: certificate line " ++ (decimal line ++ codes "\n")
+
 -- The end of the line of a limit that is passed: the trace line of the edit, where there is one.
 abbrev pub limit_end : Option ℕ → List ℕ
 limit_end None = codes "\n"
@@ -44,9 +48,12 @@ limit_line word direction line at =
 -- The line of an outcome, with its end; none where the run came to an answer.
 abbrev pub error_line : Outcome → Option (List ℕ)
 error_line Outcome.Done = None
+error_line Outcome.Differ = None
+error_line (Outcome.Rejected node) = None
 error_line Outcome.Usage = Some (codes "error: usage\n")
 error_line (Outcome.PolicyFault word fault) = Some (policy_line word fault)
 error_line (Outcome.TraceFault line fault) = Some (trace_line line fault)
+error_line (Outcome.CertFault line) = Some (certificate_line line)
 error_line (Outcome.TooLong word) = Some (word_line word (codes ": too long\n"))
 error_line (Outcome.EntryLimit word direction line at) = Some (limit_line word direction line at)
 error_line (Outcome.ReadFault word) = Some (word_line word (codes ": cannot read\n"))

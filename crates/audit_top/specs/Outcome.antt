@@ -1,6 +1,8 @@
 -- How a run ends.
 use Rattle.std.specs.Prelude.{ℕ, Option, Some, None, Result, Ok, Err}
 use Rattle.audit_frame.specs.declared.refusal.Refusal.{Refusal}
+use Rattle.cmd_audit.specs.declared.command.AuditEnd.{AuditEnd}
+use Rattle.cmd_check.specs.declared.command.CheckEnd.{CheckEnd}
 use Rattle.cmd_judge.specs.declared.command.JudgeEnd.{JudgeEnd}
 use Rattle.cmd_judge.specs.declared.command.TraceFault.{TraceFault as JudgeFault}
 use Rattle.cmd_replay.specs.declared.command.ReplayEnd.{ReplayEnd}
@@ -53,12 +55,25 @@ abbrev pub left_by : ReplayEnd → Option Machine
 left_by (ReplayEnd.Done m) = Some m
 left_by (ReplayEnd.TraceFault line fault) = None
 
+-- The outcome of an end of `audit`, and of one of `check`.
+abbrev pub audited : AuditEnd → Outcome
+audited AuditEnd.Agree = Outcome.Done
+audited AuditEnd.Differ = Outcome.Differ
+
+abbrev pub certified : CheckEnd → Outcome
+certified CheckEnd.Accepted = Outcome.Done
+certified (CheckEnd.Rejected node) = Outcome.Rejected node
+certified (CheckEnd.CertFault line) = Outcome.CertFault line
+
 -- The exit status of each outcome.
 abbrev pub status_of : Outcome → ℕ
 status_of Outcome.Done = 0
+status_of Outcome.Differ = 1
+status_of (Outcome.Rejected node) = 1
 status_of Outcome.Usage = 2
 status_of (Outcome.PolicyFault word fault) = 3
 status_of (Outcome.TraceFault line fault) = 4
+status_of (Outcome.CertFault line) = 4
 status_of (Outcome.TooLong word) = 4
 status_of (Outcome.EntryLimit word direction line at) = 5
 status_of (Outcome.ReadFault word) = 6

@@ -6,6 +6,8 @@ ghost use Rattle.audit_top.specs.Outcome.{ended_by, left_by, replayed};
 ghost use Rattle.audit_top.specs.declared.outcome.Outcome.{Outcome};
 
 use crate::{Outcome, TraceFault};
+use cmd_audit::{Audit, AuditEnd};
+use cmd_check::{Check, CheckEnd};
 use cmd_decorrelate::Decorrelate;
 use cmd_judge::Judge;
 use cmd_replay::{Replay, ReplayEnd};
@@ -19,6 +21,8 @@ pub enum Command<'a> {
     Judge(Judge<'a>),
     Decorrelate(Decorrelate<'a>),
     Replay(Replay<'a>),
+    Audit(Audit<'a>),
+    Check(Check<'a>),
 }
 
 impl<'a> Command<'a> {
@@ -32,7 +36,13 @@ impl<'a> Command<'a> {
         if let Some(decorrelate) = Decorrelate::from_words(words) {
             return Some(Command::Decorrelate(decorrelate));
         }
-        Replay::from_words(words).map(Command::Replay)
+        if let Some(replay) = Replay::from_words(words) {
+            return Some(Command::Replay(replay));
+        }
+        if let Some(audit) = Audit::from_words(words) {
+            return Some(Command::Audit(audit));
+        }
+        Check::from_words(words).map(Command::Check)
     }
 
     // Runs the command. A machine that ran to the end of a trace is kept.
@@ -73,6 +83,23 @@ impl<'a> Command<'a> {
                 cmd_replay::laws::each_event_is_answered();
                 match replay.run(alloc, files, out) {
                     Ok(end) => keep(end, kept),
+                    Err(refusal) => Outcome::from(refusal),
+                }
+            }
+            Command::Audit(audit) => {
+                cmd_audit::laws::the_least_gap_is_written();
+                match audit.run(alloc, files, out) {
+                    Ok(AuditEnd::Agree) => Outcome::Done,
+                    Ok(AuditEnd::Differ) => Outcome::Differ,
+                    Err(refusal) => Outcome::from(refusal),
+                }
+            }
+            Command::Check(check) => {
+                cmd_check::laws::accepted_policies_agree();
+                match check.run(alloc, files, out) {
+                    Ok(CheckEnd::Accepted) => Outcome::Done,
+                    Ok(CheckEnd::Rejected { node }) => Outcome::Rejected { node },
+                    Ok(CheckEnd::CertFault { line }) => Outcome::CertFault { line },
                     Err(refusal) => Outcome::from(refusal),
                 }
             }

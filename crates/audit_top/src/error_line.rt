@@ -1,7 +1,7 @@
 ghost use Rattle.std.specs.Prelude.{◌≡◌, ◌≤◌, ◌++◌, codes, decimal, length, map, option_map};
 ghost use Rattle.audit_frame.specs.Answer.{text_of};
-ghost use Rattle.audit_top.specs.ErrorLine.{error_line, limit_line, policy_line, trace_line};
-ghost use Rattle.audit_top.specs.ErrorLine.{word_line};
+ghost use Rattle.audit_top.specs.ErrorLine.{certificate_line, error_line, limit_line, policy_line};
+ghost use Rattle.audit_top.specs.ErrorLine.{trace_line, word_line};
 
 use crate::{Outcome, TraceFault};
 use arrayvec::ArrayString;
@@ -21,10 +21,11 @@ pub fn error_line_of(outcome: &Outcome) -> Option<ErrorLine>
     ensures { option_map (λ line. line.bytes) result ≡ error_line outcome.now }
 {
     match outcome {
-        Outcome::Done => None,
+        Outcome::Done | Outcome::Differ | Outcome::Rejected { .. } => None,
         Outcome::Usage => Some(joined(&["error: usage\n"])),
         Outcome::PolicyFault { word, fault } => Some(line_of_policy(*word, fault)),
         Outcome::TraceFault { line, fault } => Some(line_of_trace(*line, fault)),
+        Outcome::CertFault { line } => Some(line_of_certificate(*line)),
         Outcome::TooLong { word } => Some(line_of_word(*word, ": too long\n")),
         Outcome::EntryLimit {
             word,
@@ -96,6 +97,12 @@ fn line_of_cause(line: u64, mark: &str, cause: &str) -> ErrorLine
         cause,
         "\n",
     ])
+}
+
+fn line_of_certificate(line: u64) -> ErrorLine
+    ensures { result.bytes ≡ certificate_line line }
+{
+    joined(&["error: certificate line ", Buffer::new().format(line), "\n"])
 }
 
 fn line_of_limit(word: u32, direction: Direction, line: u32, at: Option<u64>) -> ErrorLine

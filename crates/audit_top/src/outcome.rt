@@ -13,6 +13,12 @@ use spd_file::PolicyFault;
 pub enum Outcome {
     /// The input was read to its end and the text written.
     Done,
+    /// Some packet is judged differently by the two policies, and the least one was written.
+    Differ,
+    /// A node of the certificate doesn't hold: the first, counted from 1.
+    Rejected {
+        node: u64,
+    },
     /// The words are those of no command.
     Usage,
     /// The policy file that the word names is refused.
@@ -24,6 +30,10 @@ pub enum Outcome {
     TraceFault {
         line: u64,
         fault: TraceFault,
+    },
+    /// The text is no certificate: its first line, counted from 1, that is none of one.
+    CertFault {
+        line: u64,
     },
     /// The file that the word names has more bytes than it may.
     TooLong {
@@ -110,9 +120,12 @@ pub fn status(outcome: &Outcome) -> u8
 {
     match outcome {
         Outcome::Done => 0,
+        Outcome::Differ => 1,
+        Outcome::Rejected { .. } => 1,
         Outcome::Usage => 2,
         Outcome::PolicyFault { .. } => 3,
         Outcome::TraceFault { .. } => 4,
+        Outcome::CertFault { .. } => 4,
         Outcome::TooLong { .. } => 4,
         Outcome::EntryLimit { .. } => 5,
         Outcome::ReadFault { .. } => 6,

@@ -1,9 +1,9 @@
 use crate::TraceFault;
-use crate::compiling::compile;
+use crate::compiling::{compile, machine_of};
 use crate::tracing::replay_trace;
 use audit_frame::{Ended, MOST_LIMIT, NamedFile, load_file, load_policy, read_count};
 use pair_io::{Files, Sink, WordList};
-use spd_cache::{Cache, MOST_GROUPS};
+use spd_cache::MOST_GROUPS;
 use spd_lanes::Shared;
 use std::alloc::Global;
 use std::marker::Model;
@@ -99,13 +99,7 @@ impl<'a> Replay<'a> {
         let lines = load_policy(alloc, files, &self.policy)?;
         let compiled = compile(alloc, word, lines, self.limit)?;
         let trace = load_file(alloc, files, &self.trace, MOST_TRACE)?;
-        let cache = Cache::new(alloc, self.capacity as usize)?;
-        replay_trace(
-            alloc,
-            word,
-            Shared::new(compiled, cache),
-            trace.as_slice(),
-            out,
-        )
+        let shared = machine_of(alloc, compiled, self.capacity)?;
+        replay_trace(alloc, word, shared, trace.as_slice(), out)
     }
 }

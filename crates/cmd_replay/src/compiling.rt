@@ -1,10 +1,13 @@
-ghost use Rattle.std.specs.Prelude.{◌≡◌, IfOk, IfErr, OnOk, None};
+ghost use Rattle.std.specs.Prelude.{◌≡◌, ◌≤◌, IfOk, IfErr, OnOk, None};
+ghost use Rattle.spd_lanes.specs.Machine.{machine};
 ghost use Rattle.spd_lanes.specs.Policy.{over, policy};
 ghost use Rattle.spd_line.specs.Policy.{IsPolicy};
 ghost use Rattle.cmd_replay.specs.inner.Stages.{OverCauses};
 
 use audit_frame::Refusal;
-use spd_lanes::{CompileFault, Compiled};
+use lists::NoMemory;
+use spd_cache::Cache;
+use spd_lanes::{CompileFault, Compiled, Shared};
 use spd_line::LineList;
 use spd_order::{OrderFault, Spd};
 use std::alloc::Global;
@@ -40,4 +43,15 @@ fn compile_spd(alloc: Global, word: u32, spd: Spd, limit: u32) -> Result<Compile
         }),
         Err(CompileFault::NoMemory) => Err(Refusal::NoMemory),
     }
+}
+
+// The machine of a compiled policy, whose cache has no group, and room for so many.
+pub fn machine_of(alloc: Global, compiled: Compiled, capacity: u32) -> Result<Shared, NoMemory>
+    requires some { 1 ≤ capacity }
+    requires most { capacity ≤ 4096 }
+    ensures { IfOk result (λ shared.
+        shared ≡ machine compiled.lines compiled.limit capacity) }
+{
+    let cache = Cache::new(alloc, capacity as usize)?;
+    Ok(Shared::new(compiled, cache))
 }

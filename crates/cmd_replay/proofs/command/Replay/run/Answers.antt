@@ -1,6 +1,5 @@
 use Rattle.std.proofs.Common.{refl, ap, arith}
 use Rattle.std.proofs.lemmas.Result.{err_from_is_err_and}
-use Rattle.spd_cache.specs.Cached.{Cached}
 use Rattle.spd_lanes.specs.Policy.{over, Policy}
 use Rattle.audit_frame.specs.Causes.{reads}
 use Rattle.audit_frame.proofs.Runs.{Runs-unloaded}
@@ -37,9 +36,9 @@ returns-in_err-trace g c =
     (Runs-compiled command (over command.limit c.in_ok-lines.lines) _ told _ _ _ _ _ _ _ c.in_ok-compiled.ensures.within
     (Runs-unloaded (by_trace command c.in_ok-lines.lines) (replay_files command) told command.trace most_trace _ _ _ _ _ (1, omega arith, refl) refused)))
 
-pub returns-in_err-cache : goal.returns-in_err-cache
-returns-in_err-cache g c =
-    let p = err_from_is_err_and c.from_residual-in_err-cache.result c.from_residual-in_err-cache.ensures.1 in
+pub returns-in_err-shared : goal.returns-in_err-shared
+returns-in_err-shared g c =
+    let p = err_from_is_err_and c.from_residual-in_err-shared.result c.from_residual-in_err-shared.ensures.1 in
     let self = c.self.inside in
     let command : ReplayWords = record { limit = self.limit; capacity = self.capacity; policy = self.policy; trace = self.trace } in
     let told = g.F.Files.told c.args.files.now in
@@ -66,8 +65,7 @@ returns g c =
     let ends =
     rw (
       c.as_slice.ensures,
-      c.new.ensures,
-      ap (λ (k : Cached). k.capacity) c.in_ok-cache.ensures,
+      c.in_ok-shared.ensures,
       ap (λ (k : Policy). k.lines) c.in_ok-compiled.ensures.compiled,
       ap (λ (k : Policy). k.limit) c.in_ok-compiled.ensures.compiled,
       c.word-word.ensures,
