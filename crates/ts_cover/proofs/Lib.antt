@@ -1,0 +1,5 @@
+pub mod Steps
+pub mod PairPoints
+pub mod Reached
+pub mod Written
+pub mod CutSides

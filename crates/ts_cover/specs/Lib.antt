@@ -1,0 +1,4 @@
+pub mod Covered
+pub mod Pairs
+pub mod RealParts
+pub mod Writing

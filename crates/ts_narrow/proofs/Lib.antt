@@ -1,0 +1,6 @@
+pub mod Answering
+pub mod Passed
+pub mod Found
+pub mod MeetPoints
+pub mod Chosen
+pub mod AnswerPoints

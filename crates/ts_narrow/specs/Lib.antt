@@ -1,0 +1,4 @@
+pub mod Allowed
+pub mod Meets
+pub mod Narrowing
+pub mod Answered
