@@ -45,7 +45,7 @@ fn prints_and_reads_nodes(rt: HostRuntime) -> Result<(), Fail> {
         let mut text = Vec::new(rt.alloc());
         print_node(family, &node, &mut text)?;
         assert_eq!(rt; std::str::from_utf8(text.as_slice())?, line);
-        assert_eq!(rt; read_node(family, text.as_slice()), Some(node), "at {line}");
+        assert_eq!(rt; read_node(family, text.as_slice()), Some(node));
     }
     Ok(())
 }

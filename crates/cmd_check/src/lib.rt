@@ -8,5 +8,3 @@ mod command;
 mod found_line;
 pub mod laws;
 mod most_bytes;
-#[cfg(test)]
-mod tests;
