@@ -1,9 +1,6 @@
-use super::{FILES, files_of, ran, ran_keeping};
-use spd_lanes::Shared;
-use spd_text::Printed;
+use super::{FILES, files_of, ran};
 use std::alloc::Global;
 use std::test::Fail;
-use trace_text::{Event, next_event};
 
 // Policies and traces, each behind a line with its name. `TCP` stands for a protocol and its ports.
 const TRACES: &str = "
@@ -293,42 +290,5 @@ fn each_event_is_answered_as_stated(rt: HostRuntime) -> Result<(), Fail> {
             assert_eq!(rt; ran(alloc, files, call)?, ended, "{call}");
         }
     }
-    Ok(())
-}
-
-// What the machine answers to the packet of a trace line, behind whether that is a hit.
-fn asked(alloc: Global, shared: &mut Shared, line: &[u8; 38]) -> Result<String, Fail> {
-    match next_event(line)?.event {
-        Some(Event::Pkt { direction, packet }) => {
-            let reply = shared.packet(direction, &packet)?;
-            let mut text = Vec::new(alloc);
-            reply.answer.print(&mut text)?;
-            let answer = std::str::from_utf8(text.as_slice())?;
-            Ok(format!(in alloc; "{} {answer}", reply.hit)?)
-        }
-        _ => Err("no packet".into()),
-    }
-}
-
-// The machine that a replay kept still has the groups of its keys.
-#[test]
-fn the_machine_that_ran_is_kept(rt: HostRuntime) -> Result<(), Fail> {
-    let alloc = rt.alloc();
-    let files = files_of(alloc, files_text(alloc)?.as_str())?;
-    let mut kept = None;
-    let _ = ran_keeping(alloc, files, "replay 100 4 subnet sources", &mut kept)?;
-    let mut shared = kept.ok_or("no machine is kept")?;
-    let known = asked(
-        alloc,
-        &mut shared,
-        b"pkt out 10.0.0.2 192.0.2.1 6 40000 443",
-    )?;
-    assert_eq!(rt; known.as_str(), "true protect esp transport sub");
-    let new = asked(
-        alloc,
-        &mut shared,
-        b"pkt out 10.0.0.3 192.0.2.1 6 40000 443",
-    )?;
-    assert_eq!(rt; new.as_str(), "false protect esp transport sub");
     Ok(())
 }
