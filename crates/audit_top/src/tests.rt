@@ -64,6 +64,25 @@ mode = 'tunnel'
 local = '10.0.0.0/8'
 gate_local = '192.0.2.1'
 gate_remote = '198.51.100.1'
+@ branch
+format = 1
+[[line]]
+name = 'ike'
+action = 'bypass'
+local = '192.0.2.1'
+remote = '198.51.100.1'
+protocol = 17
+local_port = '500'
+remote_port = '500'
+[[line]]
+name = 'vpn'
+action = 'protect'
+ipsec = 'esp'
+mode = 'tunnel'
+local = '10.1.0.0/24'
+remote = ['10.8.0.0/24', '10.8.1.0/24', '10.8.2.0/24']
+gate_local = '192.0.2.1'
+gate_remote = '198.51.100.1'
 @ many
 format = 1
 line = [

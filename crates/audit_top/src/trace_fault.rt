@@ -3,8 +3,8 @@ use spd_lanes::LaneFault;
 use spd_order::OrderFault;
 use trace_text::EventFault;
 
-/// Why a line of a trace is refused, by any command that reads one. What it holds is never a lack of
-/// memory.
+/// Why a line of a trace is refused, by any command that reads one. What it holds is never a lack
+/// of memory.
 #[derive(Clone, Copy, Debug, PartialEq, Eq)]
 pub enum TraceFault {
     /// Its text is.

@@ -1,6 +1,7 @@
 ghost use Rattle.std.specs.Prelude.{◌≡◌, ◌+◌, ◌≤◌, length, IfErr, IfOk, IfSome, OnOk};
 ghost use Rattle.audit_frame.specs.Ends.{WriteCauses, Writes};
-ghost use Rattle.cmd_audit.specs.Audit.{agreement, by_gap, gap_answer, gap_lines, pair_answer, told_by};
+ghost use Rattle.cmd_audit.specs.Audit.{agreement, by_gap, gap_answer, gap_lines, pair_answer};
+ghost use Rattle.cmd_audit.specs.Audit.{told_by};
 ghost use Rattle.cmd_audit.specs.inner.Places.{HasPlaces};
 ghost use Rattle.pair_gap.specs.LeastGap.{least_gap_of};
 ghost use Rattle.sel_box.specs.declared.packet.Direction.TheVariants.{Inbound, Outbound};
@@ -98,7 +99,8 @@ fn write_gap<O: Sink>(
     requires few_a { length a.now ≤ 4096 }
     requires few_b { length b.now ≤ 4096 }
     requires places { HasPlaces a.now b.now gap.now }
-    ensures writes { Writes (gap_answer a.now b.now gap.now) (O.told out.old) (O.told out.new) result }
+    ensures writes { Writes (gap_answer a.now b.now gap.now)
+        (O.told out.old) (O.told out.new) result }
     ensures causes { IfErr result (WriteCauses (O.faults out.old) (O.faults out.new)) }
     ensures no_fault { OnOk result (O.faults out.new ≡ O.faults out.old) }
 {

@@ -13,13 +13,13 @@ ghost use Rattle.spd_lanes.specs.Machine.{Machine};
 /// before it. So a hit tells the verdict of the policy in force at the hit, and a fill that of the
 /// policy in force at its lane's last search. The machine is the one after all events.
 pub fn each_event_is_answered()
-    ensures lines { (told : List ℕ → Option (List ℕ)) (command : ReplayWords) (policy trace : List ℕ)
-        → (before now : Option (List ℕ)) (end : Machine)
+    ensures lines { (told : List ℕ → Option (List ℕ)) (command : ReplayWords)
+        → (policy trace : List ℕ) (before now : Option (List ℕ)) (end : Machine)
         → told command.policy.name ≡ Some policy → told command.trace.name ≡ Some trace
         → Ends (replay_answer told command) before now (Ok (ReplayEnd.Done end))
         → IsTraceReplayed command policy trace before now }
-    ensures machine { (told : List ℕ → Option (List ℕ)) (command : ReplayWords) (policy trace : List ℕ)
-        → (before now : Option (List ℕ)) (end : Machine)
+    ensures machine { (told : List ℕ → Option (List ℕ)) (command : ReplayWords)
+        → (policy trace : List ℕ) (before now : Option (List ℕ)) (end : Machine)
         → told command.policy.name ≡ Some policy → told command.trace.name ≡ Some trace
         → Ends (replay_answer told command) before now (Ok (ReplayEnd.Done end))
         → HasRun command policy trace end }

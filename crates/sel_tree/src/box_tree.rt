@@ -33,7 +33,8 @@ impl Model for BoxTree {
 
     ghost view = { λ t. t.regions };
 
-    ghost invariant = { λ t. IsIndex t.regions t.trees.four.items t.trees.six.items t.trees.placed };
+    ghost invariant = { λ t.
+        IsIndex t.regions t.trees.four.items t.trees.six.items t.trees.placed };
 }
 
 impl BoxTree {
@@ -41,8 +42,8 @@ impl BoxTree {
 
     /// These boxes, in order.
     ///
-    /// Takes time by n log n for n boxes, and memory for a copy of them and a node for each: some 170
-    /// bytes a box of IPv4 and 230 one of IPv6, and at most some 220 and 340 where the lists of
+    /// Takes time by n log n for n boxes, and memory for a copy of them and a node for each: some
+    /// 170 bytes a box of IPv4 and 230 one of IPv6, and at most some 220 and 340 where the lists of
     /// nodes have room to spare.
     pub fn new(alloc: Global, regions: &[AnyBox]) -> Result<BoxTree, NoMemory>
         ensures { IfOk result (λ tree. tree ≡ regions.now) }
@@ -52,8 +53,8 @@ impl BoxTree {
         BoxTree::from_list(alloc, list)
     }
 
-    /// The boxes of a list, in order, which stays as it is: memory is taken for the nodes alone, and
-    /// time as by `new`.
+    /// The boxes of a list, in order, which stays as it is: memory is taken for the nodes alone,
+    /// and time as by `new`.
     pub fn from_list(alloc: Global, regions: RegionList) -> Result<BoxTree, NoMemory>
         ensures { IfOk result (λ tree. tree ≡ regions) }
     {

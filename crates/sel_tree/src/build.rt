@@ -11,8 +11,8 @@ const PARTS: u128 = 1024;
 // Trees for a list of boxes. What they are good for is found out by a check, so that nothing is
 // promised of them here.
 //
-// Each node has the middle one of the boxes of its part on the widest axis, and below it first those
-// before and then those behind. So a tree is as deep as the logarithm of the count.
+// Each node has the middle one of the boxes of its part on the widest axis, and below it first
+// those before and then those behind. So a tree is as deep as the logarithm of the count.
 pub fn trees_for(alloc: Global, regions: &[AnyBox]) -> Result<Trees, NoMemory> {
     let mut trees = Trees::none(alloc);
     for (index, region) in regions.iter().enumerate() {

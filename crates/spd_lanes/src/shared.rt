@@ -85,8 +85,8 @@ impl Shared {
     /// Looks the packet of a lane up in the policy as it is: the lane, 0 to 15, has then found the
     /// answer of the packet's first line, fresh, whatever it had found before.
     ///
-    /// `LaneIdle` exactly where the lane is idle. After a refusal nothing has changed. Takes the time
-    /// and the memory of `Compiled::look`.
+    /// `LaneIdle` exactly where the lane is idle. After a refusal nothing has changed. Takes the
+    /// time and the memory of `Compiled::look`.
     pub fn search(&mut self, lane: u32) -> Result<Answer, LaneFault>
         requires { lane ≤ 15 }
         ensures ok { IfOk result (λ answer. searched lane self.old ≡ Ok (answer, self.new)) }

@@ -48,8 +48,8 @@ pub fn take(
 /// Looks the packet of a lane up. It sees the policy alone: the lane has then found the answer of
 /// the packet's first line, fresh, whatever it had found before.
 ///
-/// `LaneIdle` exactly where the lane is idle. After a refusal nothing has changed. Takes the time and
-/// the memory of `Compiled::look`.
+/// `LaneIdle` exactly where the lane is idle. After a refusal nothing has changed. Takes the time
+/// and the memory of `Compiled::look`.
 pub fn search(compiled: &Compiled, lane: &mut LaneState) -> Result<Answer, LaneFault>
     ensures ok { IfOk result (λ answer. search_step compiled.now.lines lane.old
         ≡ Ok (answer, lane.new)) }

@@ -14,8 +14,8 @@ use sel_box::{AnyBox, OPAQUE_FIELD, Region, RegionList, has_real};
 use std::alloc::Global;
 use std::marker::Model;
 
-/// The points that a proposal covers, as boxes: one for each pair of a selector of the initiator and
-/// one of the responder, where it isn't empty. A contract sees the list of the boxes.
+/// The points that a proposal covers, as boxes: one for each pair of a selector of the initiator
+/// and one of the responder, where it isn't empty. A contract sees the list of the boxes.
 #[derive(Drop)]
 pub struct Cover {
     boxes: RegionList,

@@ -19,8 +19,8 @@ pub fn pairs(alloc: Global, tsi: &[Ts], tsr: &[Ts]) -> Result<RegionList, NoMemo
     Ok(list)
 }
 
-/// The box of the first selector of the initiator and the first of the responder; `None` where there
-/// is none. No memory.
+/// The box of the first selector of the initiator and the first of the responder; `None` where
+/// there is none. Takes no memory.
 pub fn first_pair(tsi: &[Ts], tsr: &[Ts]) -> Option<AnyBox>
     ensures { result ≡ first_pair tsi.now tsr.now }
 {

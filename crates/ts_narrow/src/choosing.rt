@@ -124,7 +124,8 @@ fn choose_by_saying(
 ) -> Result<Choice, NoMemory>
     requires { only.now ≡ first.now ∷ [] }
     ensures { IfOk result (λ chosen. chosen ≡ narrowing.by_saying cover.now first.now said.now
-        (find (λ meet. says (first.now ∷ []) meet.region) (listed.meets outbound.now inbound.now))) }
+        (find (λ meet. says (first.now ∷ []) meet.region)
+        (listed.meets outbound.now inbound.now))) }
 {
     match first_meet(outbound, inbound, &Saying { cover: only })? {
         Some(in_first) => Ok(cut_to(only, &in_first)),

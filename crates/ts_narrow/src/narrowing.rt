@@ -27,6 +27,10 @@ use ts_cover::{Cover, cut_selectors, first_pair, local_side, remote_side};
 /// Where the entries stand for a policy: the answer covers only what the proposal covers and one
 /// line protects in both directions, and the first pair of selectors is kept where one line
 /// protects all of it.
+///
+/// Takes the time of each pair of an outbound and an inbound entry of one line, and where they meet
+/// of each pair of selectors, in a few passes; and memory for the pairs of selectors and for what
+/// is left of them while they are cut. After `NoMemory` there is no answer.
 pub fn narrow(
     alloc: Global,
     outbound: &[Entry],

@@ -106,8 +106,8 @@ fn proposal(rt: &impl Abort, alloc: Global, text: &str) -> Result<Proposal, Fail
     }
 }
 
-// What the lines answer to a proposal: the two payloads, the place of the line, and whether there is
-// more.
+// What the lines answer to a proposal: the two payloads, the place of the line, and whether there
+// is more.
 #[derive(Clone, Copy)]
 struct Case<'a> {
     policy: &'a [Selector],

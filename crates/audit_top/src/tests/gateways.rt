@@ -50,29 +50,15 @@ line = [
 ]
 @ no_port
 format = 1
-line = [
-  { name = 'frag', action = 'discard', protocol = 6, local_port = 'opaque', remote_port = 'opaque' },
-  { name = 'all', action = 'bypass' },
-]
-@ branch
-format = 1
 [[line]]
-name = 'ike'
+name = 'frag'
+action = 'discard'
+protocol = 6
+local_port = 'opaque'
+remote_port = 'opaque'
+[[line]]
+name = 'all'
 action = 'bypass'
-local = '192.0.2.1'
-remote = '198.51.100.1'
-protocol = 17
-local_port = '500'
-remote_port = '500'
-[[line]]
-name = 'vpn'
-action = 'protect'
-ipsec = 'esp'
-mode = 'tunnel'
-local = '10.1.0.0/24'
-remote = ['10.8.0.0/24', '10.8.1.0/24', '10.8.2.0/24']
-gate_local = '192.0.2.1'
-gate_remote = '198.51.100.1'
 @ head
 format = 1
 [[line]]
