@@ -1,31 +1,43 @@
 """The inputs of the benchmark: policies and traces, the same ones each time."""
-import math, random
+import math, random, re
 from dataclasses import dataclass, field
 from ipaddress import ip_address, ip_network
 
+COMMANDS = ["decorrelate", "judge", "replay", "audit", "check"]
+PLAIN_COMMANDS = [command for command in COMMANDS if command != "replay"]
 MOST = 200_000  # The greatest LIMIT.
+MOST_CERTIFICATE = 1_073_741_824
 PACKETS = 1_000_000
+EDIT_EACH = 10_000  # Packets from one edit to the next.
 ANY = ["any"]
 
 
 @dataclass
 class Input:
-    """What one run is given: a command, a policy, and a limit or a trace."""
+    """What one run is given: a command, its numbers, a policy, and what else it reads."""
     name: str
     command: str
     policy: object  # A function from the size, where there is one, to the lines.
     size: int = None
-    limit: int = MOST
+    numbers: tuple = ()  # The words between the command and its files.
     trace: object = None  # A function from the lines to the text.
+    peer: object = None  # A function from the lines to those of the other gateway.
     into_pipe: bool = False  # Standard output is a pipe and not a file.
     is_quick: bool = False  # Belongs to the quick subset.
 
-    def lines(self):
-        return self.policy() if self.size is None else self.policy(self.size)
+    def files(self):
+        """The files that the command reads, in the order of its words: their names and texts."""
+        lines = self.policy() if self.size is None else self.policy(self.size)
+        made = {"policy.toml": policy_text(lines)}
+        if self.peer:
+            made["peer.toml"] = policy_text(self.peer(lines))
+        if self.trace:
+            made["trace.txt"] = self.trace(lines)
+        return made
 
     def about(self):
         """The first sentences of the functions that make it."""
-        makers = [self.policy] + ([self.trace] if self.trace else [])
+        makers = [maker for maker in (self.policy, self.peer, self.trace) if maker]
         return " ".join(" ".join(maker.__doc__.split()) for maker in makers)
 
 
@@ -38,6 +50,13 @@ class Line:
     local_port: list = field(default_factory=lambda: ANY)
     remote_port: list = field(default_factory=lambda: ANY)
     rest: str = 'action = "bypass"'  # The rows of the other keys.
+
+    def mirrored(self):
+        """The line as the gateway at the other end of its packets has it."""
+        other = {"local": "remote", "remote": "local"}
+        rest = re.sub("local|remote", lambda side: other[side[0]], self.rest)
+        return Line(self.name, self.remote, self.local, self.protocol, self.remote_port,
+                    self.local_port, rest)
 
     def text(self):
         rows = ["", "[[line]]", f'name = "{self.name}"']
@@ -174,6 +193,20 @@ def item_lists():
             for i in range(42)]
 
 
+# Policies of the other gateway.
+
+def mirror(lines):
+    """Its mirror."""
+    return [line.mirrored() for line in lines]
+
+
+def other_mirror(lines):
+    """Its mirror, but for the action of the first line."""
+    made = mirror(lines)
+    made[0].rest = next(action for action in ACTIONS if action != made[0].rest)
+    return made
+
+
 # Traces.
 
 def packet_row(direction, local, remote, protocol, local_field, remote_field):
@@ -240,6 +273,26 @@ def falls_on_none(lines):
                    for i in range(10_000))
 
 
+def flows(count, has_edits=False):
+    """What makes a trace of so many flows, outbound and inbound, the few first of which have most
+    of the packets; with an edit each so many packets, or with none."""
+    def trace(lines):
+        draw = random.Random(17)
+        rows = [packet_row(draw.choice(("out", "in")), *sample(draw, lines[i * 7919 % len(lines)]))
+                for i in range(count)]
+        weights = [1 / (i + 1) for i in range(count)]
+        packets = draw.choices(rows, weights, k=PACKETS)
+        if not has_edits:
+            return "".join(packets)
+        edits = ['insert 1 { name = "guest", action = "discard", local = "100.64.0.9" }\n',
+                 "delete guest\n"]
+        return "".join("".join(packets[i:i + EDIT_EACH]) + edits[i // EDIT_EACH % 2]
+                       for i in range(0, PACKETS, EDIT_EACH))
+
+    trace.__doc__ = f"{count:,} flows{' and edits' if has_edits else ''}."
+    return trace
+
+
 # All inputs.
 
 FAMILIES = {"sites": sites, "overlapping": overlapping, "families": both_families,
@@ -249,7 +302,8 @@ COUNTS = [100, 1000, 4096]
 
 def inputs():
     """The inputs of all commands, in the order of the table."""
-    return decorrelate_inputs() + judge_inputs()
+    return (decorrelate_inputs() + judge_inputs() + replay_inputs() + audit_inputs()
+            + check_inputs())
 
 
 def decorrelate_inputs():
@@ -257,19 +311,19 @@ def decorrelate_inputs():
 
     def add(name, policy, sizes, limit=MOST, quick=None):
         for size in sizes:
-            made.append(Input(f"{name}-{size}", "decorrelate", policy, size, limit,
+            made.append(Input(f"{name}-{size}", "decorrelate", policy, size, (limit,),
                               is_quick=size == quick))
 
     for name, policy in FAMILIES.items():
         add(name, policy, COUNTS, quick=1000)
     add("crossing", crossing, COUNTS)
-    made.append(Input("hub", "decorrelate", hub, is_quick=True))
+    made.append(Input("hub", "decorrelate", hub, None, (MOST,), is_quick=True))
     add("disjoint", disjoint, [2, 16], quick=2)
     add("grids", grids, [1, 2, 4, 6], quick=1)
     add("shadowed", shadowed, [16, 64, 256], 3, quick=16)
     add("unreal", unreal, [1, 2, 4, 8, 16], 2, quick=1)
     # A limit that is passed in the middle of the policy.
-    made.append(Input("limit", "decorrelate", overlapping, 1000, 1700, is_quick=True))
+    made.append(Input("limit", "decorrelate", overlapping, 1000, (1700,), is_quick=True))
     return made
 
 
@@ -287,3 +341,31 @@ def judge_inputs():
                       is_quick=True))
     made.append(Input("judge-lists", "judge", item_lists, trace=falls_on_none))
     return made
+
+
+def replay_inputs():
+    made = []
+    for name, policy, size in ("hub", hub, None), ("sites", sites, 1000):
+        for count, cache in (64, 64), (1000, 64), (1000, 4096), (10_000, 64), (10_000, 4096):
+            for edits in "", "-edits":
+                made.append(Input(f"replay-{name}-{count}-{cache}{edits}", "replay", policy, size,
+                                  (10_000 + 10_000 * (size is not None), cache),
+                                  trace=flows(count, bool(edits)), is_quick=count == 64))
+    return made
+
+
+PAIRS = [(f"{name}-{count}", policy, count) for name, policy in FAMILIES.items()
+         for count in (COUNTS if policy is not offices else COUNTS[:1])] + [("hub", hub, None)]
+
+
+def audit_inputs():
+    return [Input(f"audit-{name}{kind}", "audit", policy, size, (MOST,), peer=peer,
+                  is_quick=size in (None, 100))
+            for name, policy, size in PAIRS
+            for kind, peer in (("", mirror), ("-differs", other_mirror))]
+
+
+def check_inputs():
+    return [Input(f"check-{name}", "check", policy, size, (MOST_CERTIFICATE,), peer=mirror,
+                  is_quick=size in (None, 100))
+            for name, policy, size in PAIRS]

@@ -33,20 +33,42 @@ numbers!(u16 u32 u128);
 
 pub trait Address: Number {
     const IS_SIX: bool;
+    fn read(text: &[u8]) -> Option<Self>;
     fn put(self, text: &mut Vec<u8>);
+    fn wide(self) -> u128;
+    /// The address of a number that is one of its family.
+    fn from_wide(number: u128) -> Self;
 }
 
 impl Address for u32 {
     const IS_SIX: bool = false;
+    fn read(text: &[u8]) -> Option<u32> {
+        text::address4(text)
+    }
     fn put(self, text: &mut Vec<u8>) {
         text::put_address4(text, self);
+    }
+    fn wide(self) -> u128 {
+        self.into()
+    }
+    fn from_wide(number: u128) -> u32 {
+        number as u32
     }
 }
 
 impl Address for u128 {
     const IS_SIX: bool = true;
+    fn read(text: &[u8]) -> Option<u128> {
+        text::address6(text)
+    }
     fn put(self, text: &mut Vec<u8>) {
         text::put_address6(text, self);
+    }
+    fn wide(self) -> u128 {
+        self
+    }
+    fn from_wide(number: u128) -> u128 {
+        number
     }
 }
 

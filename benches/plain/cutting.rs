@@ -81,6 +81,14 @@ fn add_line<A: Family>(
     limit: usize,
     entries: &mut Entries,
 ) -> Result<(), usize> {
+    for (cube, lacks_flagged) in boxes_of(line, networks) {
+        add(cube, place, lacks_flagged, cutter, limit, entries)?;
+    }
+    Ok(())
+}
+
+/// The boxes of a line in one family, and whether a flagged selector has no value there.
+pub fn boxes_of<A: Address>(line: &Line, networks: &Networks<A>) -> Vec<(Cube<A>, bool)> {
     let protocols = parts(line.protocol, OPAQUE_PROTOCOL, line.flags.protocol);
     let fields = |ranges: &[Range<u32>], is_flagged| {
         let parts = ranges
@@ -90,6 +98,7 @@ fn add_line<A: Family>(
     };
     let local_fields = fields(&line.local_fields, line.flags.local_field);
     let remote_fields = fields(&line.remote_fields, line.flags.remote_field);
+    let mut boxes = Vec::new();
     for local in &networks.local {
         for remote in &networks.remote {
             for protocol in &protocols {
@@ -104,13 +113,13 @@ fn add_line<A: Family>(
                         };
                         let lacks_flagged =
                             line.lacks_flagged(protocol.low, local_field.low, remote_field.low);
-                        add(cube, place, lacks_flagged, cutter, limit, entries)?;
+                        boxes.push((cube, lacks_flagged));
                     }
                 }
             }
         }
     }
-    Ok(())
+    boxes
 }
 
 /// A range, a flagged `any` in two: its numbers, and the value that isn't available.

@@ -7,6 +7,7 @@
 
 mod cube;
 mod cutting;
+mod gateways;
 mod index;
 mod judging;
 mod policy;
@@ -25,13 +26,12 @@ fn main() -> ExitCode {
     let result = match words[..] {
         ["judge", policy, trace] => judge(policy, trace),
         ["decorrelate", limit, policy] => decorrelate(limit, policy),
-        _ => Err(Refusal {
-            status: 2,
-            message: "usage".into(),
-        }),
+        ["audit", limit, policy_a, policy_b] => audit(limit, policy_a, policy_b),
+        ["check", most, policy_a, policy_b, text] => check(most, policy_a, policy_b, text),
+        _ => Err(usage()),
     };
     match result {
-        Ok(()) => ExitCode::SUCCESS,
+        Ok(is_yes) => ExitCode::from(u8::from(!is_yes)),
         Err(refusal) => {
             eprintln!("error: {}", refusal.message);
             ExitCode::from(refusal.status)
@@ -53,14 +53,16 @@ impl From<io::Error> for Refusal {
     }
 }
 
-fn judge(policy: &str, trace: &str) -> Result<(), Refusal> {
+// Each command says whether it ends with status 0, and else with 1.
+
+fn judge(policy: &str, trace: &str) -> Result<bool, Refusal> {
     let policy = load(2, policy)?;
     let lines = read_policy(2, &policy)?;
     let mut trace = fs::File::open(trace).map_err(|_| unread(3))?;
     let mut out = Out::new()?;
     let judged = judging::judge(&lines, &mut trace, &mut out);
     out.flush()?;
-    judged.map_err(|fault| match fault {
+    judged.map(|()| true).map_err(|fault| match fault {
         Fault::Line(line) => Refusal {
             status: 4,
             message: format!("trace line {line}"),
@@ -70,24 +72,75 @@ fn judge(policy: &str, trace: &str) -> Result<(), Refusal> {
     })
 }
 
-fn decorrelate(limit: &str, policy: &str) -> Result<(), Refusal> {
-    let limit = limit.parse().map_err(|_| Refusal {
-        status: 2,
-        message: "usage".into(),
-    })?;
+fn decorrelate(limit: &str, policy: &str) -> Result<bool, Refusal> {
+    let limit = limit.parse().map_err(|_| usage())?;
     let policy = load(3, policy)?;
     let lines = read_policy(3, &policy)?;
-    let cut = |direction: Direction| {
-        cutting::decorrelate(&lines, direction, limit).map_err(|line| Refusal {
-            status: 5,
-            message: format!("word 3: entry limit: {} line {line}", direction.word()),
-        })
-    };
-    let outbound = cut(Direction::Outbound)?;
-    let inbound = cut(Direction::Inbound)?;
+    let outbound = cut(3, &lines, Direction::Outbound, limit)?;
+    let inbound = cut(3, &lines, Direction::Inbound, limit)?;
     let mut out = Out::new()?;
     views::write(&lines, &outbound, &inbound, &mut out)?;
-    Ok(out.flush()?)
+    out.flush()?;
+    Ok(true)
+}
+
+/// Cuts both policies for the limit alone.
+fn audit(limit: &str, policy_a: &str, policy_b: &str) -> Result<bool, Refusal> {
+    let limit = limit.parse().map_err(|_| usage())?;
+    let policy_a = load(3, policy_a)?;
+    let a = read_policy(3, &policy_a)?;
+    cut(3, &a, Direction::Outbound, limit)?;
+    let policy_b = load(4, policy_b)?;
+    let b = read_policy(4, &policy_b)?;
+    cut(4, &b, Direction::Inbound, limit)?;
+    let (text, is_agreed) = gateways::audit(&a, &b);
+    write(text)?;
+    Ok(is_agreed)
+}
+
+fn check(most: &str, policy_a: &str, policy_b: &str, text: &str) -> Result<bool, Refusal> {
+    let most: usize = most.parse().map_err(|_| usage())?;
+    let policy_a = load(3, policy_a)?;
+    let a = read_policy(3, &policy_a)?;
+    let policy_b = load(4, policy_b)?;
+    let b = read_policy(4, &policy_b)?;
+    let text = load(5, text)?;
+    let refused = |message: &str| Refusal {
+        status: 4,
+        message: message.into(),
+    };
+    if most < text.len() {
+        return Err(refused("word 5: too long"));
+    }
+    let found = gateways::check(&a, &b, &text);
+    let (found, is_accepted) = found.ok_or_else(|| refused("certificate"))?;
+    write(found)?;
+    Ok(is_accepted)
+}
+
+fn cut(
+    word: usize,
+    lines: &[policy::Line],
+    direction: Direction,
+    limit: usize,
+) -> Result<cutting::Entries, Refusal> {
+    cutting::decorrelate(lines, direction, limit).map_err(|line| Refusal {
+        status: 5,
+        message: format!("word {word}: entry limit: {} line {line}", direction.word()),
+    })
+}
+
+fn write(text: Vec<u8>) -> io::Result<()> {
+    let mut out = Out::new()?;
+    out.text = text;
+    out.flush()
+}
+
+fn usage() -> Refusal {
+    Refusal {
+        status: 2,
+        message: "usage".into(),
+    }
 }
 
 fn load(word: usize, name: &str) -> Result<Vec<u8>, Refusal> {

@@ -75,6 +75,12 @@ impl Line<'_> {
 
     /// The end of an output line: the line's judgement and its name.
     pub fn verdict(&self, direction: Direction) -> Vec<u8> {
+        let mut text = self.judgement(direction);
+        text.extend_from_slice(format!(" {}\n", self.name).as_bytes());
+        text
+    }
+
+    pub fn judgement(&self, direction: Direction) -> Vec<u8> {
         let mut text = Vec::new();
         match &self.action {
             Action::Pass(word) => text.extend_from_slice(word.as_bytes()),
@@ -98,7 +104,6 @@ impl Line<'_> {
                 put_gate(&mut text, second);
             }
         }
-        text.extend_from_slice(format!(" {}\n", self.name).as_bytes());
         text
     }
 
