@@ -146,6 +146,20 @@ def offices(count):
     return lines
 
 
+def shared(count):
+    """Each line a network of its own, and three remote networks of 10 to 24 bits that overlap."""
+    draw = random.Random(5)
+
+    def network():
+        second, third = draw.randrange(16), draw.randrange(256)
+        return f"172.{16 + second}.{third}.0/{draw.randint(10, 24)}"
+
+    return [Line(f"office{i}", [f"10.{i // 256}.{i % 256}.0/24"], [network() for _ in range(3)],
+                 draw.choice([6, 17]), remote_port=[draw.choice(["22", "25", "53", "80", "443"])],
+                 rest=ACTIONS[i % 3])
+            for i in range(count)]
+
+
 def hub():
     """A tunnel to each of 256 branches, with three remote prefixes each."""
     tunnel = ('action = "protect"\nipsec = "esp"\nmode = "tunnel"\n'
@@ -355,7 +369,8 @@ def replay_inputs():
 
 
 PAIRS = [(f"{name}-{count}", policy, count) for name, policy in FAMILIES.items()
-         for count in (COUNTS if policy is not offices else COUNTS[:1])] + [("hub", hub, None)]
+         for count in (COUNTS if policy is not offices else COUNTS[:2])]
+PAIRS += [("hub", hub, None), ("shared-100", shared, 100), ("shared-300", shared, 300)]
 
 
 def audit_inputs():

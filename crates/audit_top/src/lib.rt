@@ -10,6 +10,4 @@ mod command;
 mod error_line;
 mod outcome;
 mod running;
-#[cfg(test)]
-mod tests;
 mod trace_fault;
