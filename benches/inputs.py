@@ -3,7 +3,7 @@ import math, random, re
 from dataclasses import dataclass, field
 from ipaddress import ip_address, ip_network
 
-COMMANDS = ["decorrelate", "judge", "replay", "audit", "check"]
+COMMANDS = ["decorrelate", "judge", "replay", "narrow", "audit", "check"]
 PLAIN_COMMANDS = [command for command in COMMANDS if command != "replay"]
 MOST = 200_000  # The greatest LIMIT.
 MOST_CERTIFICATE = 1_073_741_824
@@ -21,6 +21,7 @@ class Input:
     size: int = None
     numbers: tuple = ()  # The words between the command and its files.
     trace: object = None  # A function from the lines to the text.
+    proposal: object = None  # A function without parameters to the text.
     peer: object = None  # A function from the lines to those of the other gateway.
     into_pipe: bool = False  # Standard output is a pipe and not a file.
     is_quick: bool = False  # Belongs to the quick subset.
@@ -33,11 +34,14 @@ class Input:
             made["peer.toml"] = policy_text(self.peer(lines))
         if self.trace:
             made["trace.txt"] = self.trace(lines)
+        if self.proposal:
+            made["proposal.txt"] = self.proposal()
         return made
 
     def about(self):
         """The first sentences of the functions that make it."""
-        makers = [maker for maker in (self.policy, self.peer, self.trace) if maker]
+        makers = [self.policy, self.peer, self.trace, self.proposal]
+        makers = [maker for maker in makers if maker]
         return " ".join(" ".join(maker.__doc__.split()) for maker in makers)
 
 
@@ -207,6 +211,22 @@ def item_lists():
             for i in range(42)]
 
 
+def protected(count):
+    """Each line protects TCP between one local and one remote network."""
+    lines = sites(count)
+    for line in lines:
+        line.rest = TRANSPORT
+    return lines
+
+
+def holes(count):
+    """A line that protects all but so many grids of 64 by 64 addresses."""
+    lines = disjoint(count)
+    for line in lines:
+        line.rest = 'action = "discard"'
+    return lines + [Line("all", rest=TRANSPORT)]
+
+
 # Policies of the other gateway.
 
 def mirror(lines):
@@ -307,6 +327,25 @@ def flows(count, has_edits=False):
     return trace
 
 
+# Proposals.
+
+def offer(count, remote, local):
+    """What makes a proposal of so many selectors a side, which part two networks evenly."""
+    def payload(following, network):
+        network = ip_network(network)
+        first, hosts = int(network[0]), network.num_addresses
+        ends = [first + hosts * i // count for i in range(count + 1)]
+        selectors = "".join(f"07000010{0:04x}{65535:04x}{low:08x}{high - 1:08x}"
+                            for low, high in zip(ends, ends[1:]))
+        return f"{following:02x}00{8 + 16 * count:04x}{count:02x}000000{selectors}\n"
+
+    def proposal():
+        return payload(45, remote) + payload(0, local)
+
+    proposal.__doc__ = f"{count} by {count} selectors."
+    return proposal
+
+
 # All inputs.
 
 FAMILIES = {"sites": sites, "overlapping": overlapping, "families": both_families,
@@ -316,8 +355,8 @@ COUNTS = [100, 1000, 4096]
 
 def inputs():
     """The inputs of all commands, in the order of the table."""
-    return (decorrelate_inputs() + judge_inputs() + replay_inputs() + audit_inputs()
-            + check_inputs())
+    return (decorrelate_inputs() + judge_inputs() + replay_inputs() + narrow_inputs()
+            + audit_inputs() + check_inputs())
 
 
 def decorrelate_inputs():
@@ -365,6 +404,20 @@ def replay_inputs():
                 made.append(Input(f"replay-{name}-{count}-{cache}{edits}", "replay", policy, size,
                                   (10_000 + 10_000 * (size is not None), cache),
                                   trace=flows(count, bool(edits)), is_quick=count == 64))
+    return made
+
+
+def narrow_inputs():
+    """Policies of some 100 and 10,000 entries a direction, whose first line protects a part of the
+    proposal, or whose last one all of it."""
+    made = []
+    for name, policy, sizes, remote, local in (
+            ("protected", protected, (20, 2000), "172.16.0.0/12", "10.0.0.0/12"),
+            ("holes", holes, (1,), "192.0.0.0/8", "198.0.0.0/8")):
+        for size in sizes:
+            for count in 1, 16, 127:
+                made.append(Input(f"narrow-{name}-{size}-{count}", "narrow", policy, size, (MOST,),
+                                  proposal=offer(count, remote, local), is_quick=count == 16))
     return made
 
 

@@ -10,6 +10,7 @@ mod cutting;
 mod gateways;
 mod index;
 mod judging;
+mod narrowing;
 mod policy;
 mod text;
 mod views;
@@ -28,6 +29,7 @@ fn main() -> ExitCode {
         ["decorrelate", limit, policy] => decorrelate(limit, policy),
         ["audit", limit, policy_a, policy_b] => audit(limit, policy_a, policy_b),
         ["check", most, policy_a, policy_b, text] => check(most, policy_a, policy_b, text),
+        ["narrow", limit, policy, proposal] => narrow(limit, policy, proposal),
         _ => Err(usage()),
     };
     match result {
@@ -116,6 +118,22 @@ fn check(most: &str, policy_a: &str, policy_b: &str, text: &str) -> Result<bool,
     let (found, is_accepted) = found.ok_or_else(|| refused("certificate"))?;
     write(found)?;
     Ok(is_accepted)
+}
+
+fn narrow(limit: &str, policy: &str, proposal: &str) -> Result<bool, Refusal> {
+    let limit = limit.parse().map_err(|_| usage())?;
+    let policy = load(3, policy)?;
+    let lines = read_policy(3, &policy)?;
+    let outbound = cut(3, &lines, Direction::Outbound, limit)?;
+    let inbound = cut(3, &lines, Direction::Inbound, limit)?;
+    let proposal = load(4, proposal)?;
+    let found = narrowing::narrow(&lines, &outbound, &inbound, &proposal);
+    let (text, is_acceptable) = found.ok_or_else(|| Refusal {
+        status: 4,
+        message: "proposal".into(),
+    })?;
+    write(text)?;
+    Ok(is_acceptable)
 }
 
 fn cut(

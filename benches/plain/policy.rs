@@ -22,7 +22,7 @@ impl Direction {
 
 /// A line, its selectors as ranges in the order of their items.
 pub struct Line<'a> {
-    name: &'a str,
+    pub name: &'a str,
     action: Action<'a>,
     only: Option<Direction>,
     pub four: Networks<u32>,
