@@ -28,10 +28,11 @@ use Rattle.ts_narrow.specs.declared.meets.Meet.{Meet}
 use Rattle.ts_narrow.specs.declared.narrowed.Narrowed.{Narrowed}
 use Rattle.ts_narrow.specs.declared.narrowed.Narrowed.TheVariants.{Pair, Unacceptable}
 use Rattle.ts_narrow.specs.Allowed.{StandForBoth, allowed}
-use Rattle.ts_narrow.specs.Answered.{AllAllowed, GivesWhole, HasSelectors, IsWithin, KeepsFirst, RefusesRightly, SomeAcceptable, SomeFirst, SomeLeft, TellsOfLeft}
+use Rattle.ts_narrow.specs.Answered.{AllAllowed, CoversSome, GivesWhole, HasSelectors, IsRightAnswer, IsWithin, KeepsFirst, RefusesRightly}
+use Rattle.ts_narrow.specs.Answered.{SomeAcceptable, SomeFirst, SomeLeft, TellsOfLeft}
 use Rattle.ts_narrow.specs.Meets.{meets, regions_of}
 use Rattle.ts_narrow.specs.Narrowing.{answer_of, by_meets, by_said, choice, misses, narrowing, tsi_of, tsr_of}
-use Rattle.ts_narrow.proofs.Chosen.{IsRight, allowed-kept, choice-first, choice-right, choice-writable, first-covered, kept-allowed, listed-allowed}
+use Rattle.ts_narrow.proofs.Chosen.{IsRight, allowed-kept, choice-first, choice-right, choice-some, choice-writable, first-covered, kept-allowed, listed-allowed}
 use Rattle.ts_narrow.proofs.Found.{IsListed, find-listed, find-passes, find-some, point-passes}
 use Rattle.ts_narrow.proofs.MeetPoints.{allowed-one, allowed-real, meets-allowed}
 
@@ -187,6 +188,7 @@ module _ (lines : List LineParts) (list : List Meet)
 
     record IsAnswered (answer : Narrowed) : Type 0 where
       within_is : IsWithin lines tsi tsr answer
+      some_is : CoversSome answer
       keeps_is : KeepsFirst lines tsi tsr answer
       tells_is : TellsOfLeft lines tsi tsr answer
       refuses_is : RefusesRightly lines tsi tsr answer
@@ -200,8 +202,14 @@ module _ (lines : List LineParts) (list : List Meet)
     chosen-answered meet e left =
         let chosen = choice (pairs tsi tsr) (first_pair tsi tsr) meet list in
         let right = choice-right lines list known tsi tsr hi hr meet e in
+        let s = choice-some lines list known tsi tsr hi hr meet e in
         record {
           within_is = within chosen right;
+          some_is = record {
+            point = s.point;
+            real = s.real;
+            is_covered = right.covers s.point s.real ∙ and_from (covered tsi tsr s.point) (box_has chosen.region s.point) s.is_covered s.inside;
+          };
           keeps_is = keeps chosen right (choice-first lines list known tsi tsr hi hr meet);
           tells_is = tells chosen right;
           refuses_is = (λ same. cc, λ none. absurd (none (acceptable meet e)));
@@ -217,6 +225,7 @@ module _ (lines : List LineParts) (list : List Meet)
         leaves (pairs tsi tsr) (regions_of meet.link list) ≡ false → IsAnswered (Pair tsi tsr meet.link false)
     whole-answered meet e none = record {
       within_is = λ x real inside. (inside, whole-allowed meet.link none x real inside);
+      some_is = let a = said-at meet e in record { point = a.point; real = a.real; is_covered = a.is_covered };
       keeps_is = λ some place all x real inside. first-covered tsi tsr x inside;
       tells_is = (λ h. cc, λ left. absurd (false≢true (sym left.is_left ∙ left.is_covered)));
       refuses_is = (λ same. cc, λ no. absurd (no (acceptable meet e)));
@@ -230,6 +239,7 @@ module _ (lines : List LineParts) (list : List Meet)
     refused-answered : find (λ (meet : Meet). says (pairs tsi tsr) meet.region) list ≡ None → IsAnswered Unacceptable
     refused-answered e = record {
       within_is = tt;
+      some_is = tt;
       keeps_is = tt;
       tells_is = tt;
       refuses_is = (λ same some. unacceptable e some, λ none. refl);
@@ -266,6 +276,9 @@ module _ (lines : List LineParts) (outbound inbound : List Entry) (both : StandF
     pub narrowing-within : IsWithin lines tsi tsr (narrowing outbound inbound tsi tsr)
     narrowing-within = answered.within_is
 
+    pub narrowing-some : CoversSome (narrowing outbound inbound tsi tsr)
+    narrowing-some = answered.some_is
+
     pub narrowing-first : KeepsFirst lines tsi tsr (narrowing outbound inbound tsi tsr)
     narrowing-first = answered.keeps_is
 
@@ -283,6 +296,16 @@ module _ (lines : List LineParts) (outbound inbound : List Entry) (both : StandF
       ),
       λ both. answered.gives_is place both.0 both.1,
     )
+
+    pub narrowing-right : IsRightAnswer lines tsi tsr (narrowing outbound inbound tsi tsr)
+    narrowing-right = record {
+      refuses = narrowing-unacceptable;
+      whole = narrowing-whole;
+      within = narrowing-within;
+      some = narrowing-some;
+      first = narrowing-first;
+      left = narrowing-notice;
+    }
 
 -- ---- the selectors of an answer
 

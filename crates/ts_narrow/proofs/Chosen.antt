@@ -30,7 +30,7 @@ use Rattle.ts_cover.specs.Writing.{can_write, cut_selectors, ends_of, first_part
 use Rattle.ts_cover.proofs.CutSides.{cut_selectors-cover}
 use Rattle.ts_cover.proofs.PairPoints.{pair_box-points, pairs-points}
 use Rattle.ts_cover.proofs.Reached.{leaves-from, leaves-some, reaches-at, reaches-some, says-from, says-some}
-use Rattle.ts_cover.proofs.Written.{written-can_write, written-holds, written-inside}
+use Rattle.ts_cover.proofs.Written.{first_part-is, first_part-some, written-can_write, written-holds, written-inside}
 use Rattle.ts_narrow.specs.declared.choice.Choice.{Choice}
 use Rattle.ts_narrow.specs.declared.choice.Form.{Form}
 use Rattle.ts_narrow.specs.declared.meets.Meet.{Meet}
@@ -46,6 +46,21 @@ use Rattle.ts_narrow.proofs.MeetPoints.{allowed-one, allowed-real}
 written-same : (boxes : List AnyBox) (region : AnyBox) → can_write region ≡ true → written_part boxes region ≡ region
 unfolding written_part
 written-same boxes region h = ap (λ (b : Bool). cond b region (unwrap_or (first_part boxes region) region)) h
+
+-- ---- what is written of a box has a real point of the boxes, where the box has a sayable one
+
+written-reaches : (boxes : List AnyBox) (region : AnyBox) → says boxes region ≡ true →
+    reaches boxes (written_part boxes region) ≡ true
+unfolding written_part
+written-reaches boxes region h = go (can_write region)
+  where
+    part : (o : Option AnyBox) → first_part boxes region ≡ o → reaches boxes (unwrap_or o region) ≡ true
+    part None e = let some = first_part-some boxes region h in absurd (none-some some.0 (sym e ∙ some.1))
+    part (Some q) e = (first_part-is boxes region q e).1.1.reached
+
+    go : (b : Bool) → reaches boxes (cond b region (unwrap_or (first_part boxes region) region)) ≡ true
+    go true = let s = says-some boxes region h in reaches-at boxes region s.point s.real s.inside s.reached
+    go false = part (first_part boxes region) refl
 
 -- ---- the first pair
 
@@ -341,3 +356,64 @@ module _ (lines : List LineParts) (list : List Meet)
               kept-link first place some.point some.real (at some.point ∙ some.is_covered) (λ y r h. all y r (sym (at y) ∙ h)) in
               subst (λ (o : Option ℕ). box_has (by_link (pairs tsi tsr) first said list o).region x ≡ true) (sym kept)
               (serving first (at x ∙ inside) (find (serves first place) list) refl)
+
+      -- ---- what is chosen has a real point of the proposal
+
+      pub record HasSome (chosen : Choice) : Type 0 where
+        pub point : PointFields
+        pub real : IsReal point
+        pub is_covered : covered tsi tsr point ≡ true
+        pub inside : box_has chosen.region point ≡ true
+
+      cut-some : (boxes : List AnyBox) (meet : Meet) → ((x : PointFields) → boxes_have boxes x ≡ true → covered tsi tsr x ≡ true) →
+          says boxes meet.region ≡ true → HasSome (cut_to boxes meet)
+      cut-some boxes meet are h =
+          let r = reaches-some boxes (written_part boxes meet.region) (written-reaches boxes meet.region h) in
+          record { point = r.point; real = r.real; is_covered = are r.point r.reached; inside = r.inside }
+
+      first-inside : (first : AnyBox) → first_pair tsi tsr ≡ Some first → (x : PointFields) → boxes_have (first ∷ []) x ≡ true →
+          covered tsi tsr x ≡ true
+      first-inside first f x h =
+          let same : box_has first x ≡ covered (take 1 tsi) (take 1 tsr) x =
+          ap (λ (o : Option AnyBox). some_has box_has o x) (sym f) ∙ first-points tsi tsr x hi hr in
+          first-covered tsi tsr x (sym same ∙ sym (or-false (box_has first x)) ∙ h)
+
+      pub choice-some : (said : Meet) → find (λ (meet : Meet). says (pairs tsi tsr) meet.region) list ≡ Some said →
+          HasSome (choice (pairs tsi tsr) (first_pair tsi tsr) said list)
+      choice-some said e = go (first_pair tsi tsr) refl
+        where
+          by_cover : HasSome (cut_to (pairs tsi tsr) said)
+          by_cover =
+              cut-some (pairs tsi tsr) said (λ x h. sym (pairs-points tsi tsr x hi hr) ∙ h)
+              (find-passes (λ (meet : Meet). says (pairs tsi tsr) meet.region) list said e)
+
+          serving : (first : AnyBox) (place : ℕ) → first_pair tsi tsr ≡ Some first → IsKept first place → (o : Option Meet) →
+              find (serves first place) list ≡ o → HasSome (by_serving first place o)
+          serving first place f kept None g =
+              let r = reaches-some (first ∷ []) first kept.some in
+              record { point = r.point; real = r.real; is_covered = first-inside first f r.point r.reached; inside = r.inside }
+          serving first place f kept (Some meet) g =
+              let r = reaches-some (first ∷ []) first kept.some in
+              let serve = serves-is first place meet (find-passes (serves first place) list meet g) in
+              record {
+                point = r.point;
+                real = r.real;
+                is_covered = first-inside first f r.point r.reached;
+                inside = served-holds first place meet serve r.point r.real r.inside;
+              }
+
+          saying : (first : AnyBox) → first_pair tsi tsr ≡ Some first → (o : Option Meet) →
+              find (λ (meet : Meet). says (first ∷ []) meet.region) list ≡ o → HasSome (by_saying (pairs tsi tsr) first said o)
+          saying first f None g = by_cover
+          saying first f (Some meet) g =
+              cut-some (first ∷ []) meet (first-inside first f)
+              (find-passes (λ (meet : Meet). says (first ∷ []) meet.region) list meet g)
+
+          link : (first : AnyBox) → first_pair tsi tsr ≡ Some first → (o : Option ℕ) → kept_link first list ≡ o →
+              HasSome (by_link (pairs tsi tsr) first said list o)
+          link first f None g = saying first f (find (λ (meet : Meet). says (first ∷ []) meet.region) list) refl
+          link first f (Some place) g = serving first place f (kept-is first place g) (find (serves first place) list) refl
+
+          go : (o : Option AnyBox) → first_pair tsi tsr ≡ o → HasSome (choice (pairs tsi tsr) o said list)
+          go None f = by_cover
+          go (Some first) f = link first f (kept_link first list) refl

@@ -41,6 +41,17 @@ KeepsFirst lines tsi tsr (Pair some_tsi some_tsr link additional) =
     SomeFirst tsi tsr → (place : ℕ) → AllAllowed lines place (take 1 tsi) (take 1 tsr) → (x : PointFields) → IsReal x →
     covered (take 1 tsi) (take 1 tsr) x ≡ true → covered some_tsi some_tsr x ≡ true
 
+-- These selectors cover a real point,
+pub record SomeCovered (tsi tsr : List Ts) : Type 0 where
+  pub point : PointFields
+  pub real : IsReal point
+  pub is_covered : covered tsi tsr point ≡ true
+
+-- and so do those of an answer.
+abbrev pub CoversSome : Narrowed → Type 0
+CoversSome Unacceptable = Unit {0}
+CoversSome (Pair some_tsi some_tsr link additional) = SomeCovered some_tsi some_tsr
+
 -- Some line allows a point that the proposal covers and these selectors don't.
 pub record SomeLeft (lines : List LineParts) (tsi tsr some_tsi some_tsr : List Ts) : Type 0 where
   pub point : PointFields
@@ -70,3 +81,12 @@ HasSelectors tsi tsr Unacceptable = Unit {0}
 HasSelectors tsi tsr (Pair some_tsi some_tsr link additional) =
     (AreSelectors some_tsi × AreSelectors some_tsr)
     × ((length some_tsi ≤ 2 * length tsi) × (length some_tsr ≤ 2 * length tsr))
+
+-- An answer is right where all of this is so.
+pub record IsRightAnswer (lines : List LineParts) (tsi tsr : List Ts) (answer : Narrowed) : Type 0 where
+  pub refuses : RefusesRightly lines tsi tsr answer
+  pub whole : GivesWhole lines tsi tsr answer
+  pub within : IsWithin lines tsi tsr answer
+  pub some : CoversSome answer
+  pub first : KeepsFirst lines tsi tsr answer
+  pub left : TellsOfLeft lines tsi tsr answer

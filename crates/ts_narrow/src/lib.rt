@@ -8,6 +8,7 @@ pub use ts_wire::{Proposal, Ts, TsList};
 
 mod choice;
 mod choosing;
+pub mod laws;
 mod meets;
 mod narrowed;
 mod narrowing;

@@ -25,8 +25,8 @@ use ts_cover::{Cover, cut_selectors, first_pair, local_side, remote_side};
 /// The initiator is the remote side.
 ///
 /// Where the entries stand for a policy: the answer covers only what the proposal covers and one
-/// line protects in both directions, and the first pair of selectors is kept where one line
-/// protects all of it.
+/// line protects in both directions, and some packet of it; and the first pair of selectors is kept
+/// where one line protects all of it.
 ///
 /// Takes the time of each pair of an outbound and an inbound entry of one line, and where they meet
 /// of each pair of selectors, in a few passes; and memory for the pairs of selectors and for what
@@ -52,6 +52,9 @@ pub fn narrow(
     ensures within { IfOk result (λ answer.
         (lines : List LineParts) → StandForBoth lines outbound.now inbound.now
         → answered.IsWithin lines proposal.now.tsi proposal.now.tsr answer) }
+    ensures some { IfOk result (λ answer.
+        (lines : List LineParts) → StandForBoth lines outbound.now inbound.now
+        → answered.CoversSome answer) }
     ensures first { IfOk result (λ answer.
         (lines : List LineParts) → StandForBoth lines outbound.now inbound.now
         → answered.KeepsFirst lines proposal.now.tsi proposal.now.tsr answer) }

@@ -1,9 +1,10 @@
 use Rattle.std.proofs.Common.{List, rules}
 use Rattle.spd_line.specs.declared.line.LineParts.{LineParts}
 use Rattle.ts_narrow.specs.Allowed.{StandForBoth}
-use Rattle.ts_narrow.specs.Answered.{GivesWhole, HasSelectors, IsWithin, KeepsFirst, RefusesRightly, TellsOfLeft}
+use Rattle.ts_narrow.specs.Answered.{CoversSome, GivesWhole, HasSelectors, IsWithin, KeepsFirst, RefusesRightly, TellsOfLeft}
 use Rattle.ts_narrow.specs.Narrowing.{narrowing}
-use Rattle.ts_narrow.proofs.AnswerPoints.{answer-at, narrowing-first, narrowing-notice, narrowing-selectors, narrowing-unacceptable, narrowing-whole, narrowing-within}
+use Rattle.ts_narrow.proofs.AnswerPoints.{answer-at, narrowing-first, narrowing-notice, narrowing-selectors, narrowing-some}
+use Rattle.ts_narrow.proofs.AnswerPoints.{narrowing-unacceptable, narrowing-whole, narrowing-within}
 use Rattle.ts_narrow.proofs.narrowing.narrow.Goals as goal
 
 pub returns-clause-unacceptable : goal.returns-clause-unacceptable
@@ -32,6 +33,15 @@ returns-clause-within c =
     (λ answer. (lines : List LineParts) → StandForBoth lines c.args.outbound.now c.args.inbound.now → IsWithin lines tsi tsr answer)
     (search rules)
     (λ lines both. narrowing-within lines c.args.outbound.now c.args.inbound.now both tsi tsr c.requires.tsi c.requires.tsr)
+
+pub returns-clause-some : goal.returns-clause-some
+returns-clause-some c =
+    let tsi = c.args.proposal.now.tsi in
+    let tsr = c.args.proposal.now.tsr in
+    answer-at c.answer.result (narrowing c.args.outbound.now c.args.inbound.now tsi tsr)
+    (λ answer. (lines : List LineParts) → StandForBoth lines c.args.outbound.now c.args.inbound.now → CoversSome answer)
+    (search rules)
+    (λ lines both. narrowing-some lines c.args.outbound.now c.args.inbound.now both tsi tsr c.requires.tsi c.requires.tsr)
 
 pub returns-clause-first : goal.returns-clause-first
 returns-clause-first c =
