@@ -10,13 +10,15 @@ use Rattle.cmd_judge.specs.Judge.{judge_answer, judge_files, judge_in}
 use Rattle.cmd_judge.specs.Headline.{IsTraceJudged}
 use Rattle.cmd_decorrelate.specs.Decorrelate.{decorrelate_answer, decorrelate_files, decorrelate_in}
 use Rattle.cmd_decorrelate.specs.Headline.{IsDecorrelated}
+use Rattle.cmd_narrow.specs.Headline.{IsNarrowed, IsNoProposal, IsUnacceptable}
+use Rattle.cmd_narrow.specs.Narrow.{narrow_answer, narrow_files, narrow_in}
 use Rattle.cmd_replay.specs.Headline.{HasRun, IsTraceReplayed}
 use Rattle.cmd_replay.specs.Replay.{replay_answer}
 use Rattle.cmd_replay.specs.Words.{replay_files, replay_in}
 use Rattle.spd_lanes.specs.Machine.{Machine}
 use Rattle.audit_top.specs.declared.command.Command.{Command}
 use Rattle.audit_top.specs.declared.outcome.Outcome.{Outcome}
-use Rattle.audit_top.specs.Outcome.{audited, certified, judged, replayed}
+use Rattle.audit_top.specs.Outcome.{audited, certified, judged, narrowed, replayed}
 
 -- The first of two, where it is there.
 abbrev pub first_of : Option Command → Option Command → Option Command
@@ -29,8 +31,9 @@ command_in words =
     first_of (option_map Command.Judge (judge_in words))
     (first_of (option_map Command.Decorrelate (decorrelate_in words))
     (first_of (option_map Command.Replay (replay_in words))
+    (first_of (option_map Command.Narrow (narrow_in words))
     (first_of (option_map Command.Audit (audit_in words))
-    (option_map Command.Check (check_in words)))))
+    (option_map Command.Check (check_in words))))))
 
 -- What it answers, as an outcome of the program.
 abbrev pub answer_of : (List ℕ → Option (List ℕ)) → Command → Option (Answer Outcome)
@@ -38,6 +41,7 @@ answer_of told (Command.Judge judge) = option_map (map_answer judged) (judge_ans
 answer_of told (Command.Decorrelate decorrelate) =
     option_map (map_answer (λ _. Outcome.Done)) (decorrelate_answer told decorrelate)
 answer_of told (Command.Replay replay) = option_map (map_answer replayed) (replay_answer told replay)
+answer_of told (Command.Narrow narrow) = option_map (map_answer narrowed) (narrow_answer told narrow)
 answer_of told (Command.Audit audit) = option_map (map_answer audited) (audit_answer told audit)
 answer_of told (Command.Check check) = option_map (map_answer certified) (check_answer told check)
 
@@ -46,6 +50,7 @@ abbrev pub files_of : Command → List InputFile
 files_of (Command.Judge judge) = judge_files judge
 files_of (Command.Decorrelate decorrelate) = decorrelate_files decorrelate
 files_of (Command.Replay replay) = replay_files replay
+files_of (Command.Narrow narrow) = narrow_files narrow
 files_of (Command.Audit audit) = audit_files audit
 files_of (Command.Check check) = check_files check
 
@@ -57,6 +62,12 @@ Means told before now Outcome.Done (Command.Decorrelate decorrelate) =
     IfSome (told decorrelate.policy.name) (λ policy. IsDecorrelated policy before now)
 Means told before now Outcome.Done (Command.Replay replay) =
     IfSome (told replay.policy.name) (λ policy. IfSome (told replay.trace.name) (λ trace. IsTraceReplayed replay policy trace before now))
+Means told before now Outcome.Done (Command.Narrow narrow) =
+    IfSome (told narrow.policy.name) (λ policy. IfSome (told narrow.proposal.name) (λ proposal. IsNarrowed policy proposal before now))
+Means told before now Outcome.Unacceptable (Command.Narrow narrow) =
+    IfSome (told narrow.policy.name) (λ policy. IfSome (told narrow.proposal.name) (λ proposal. IsUnacceptable policy proposal before now))
+Means told before now (Outcome.ProposalFault fault) (Command.Narrow narrow) =
+    IfSome (told narrow.policy.name) (λ policy. IfSome (told narrow.proposal.name) (λ proposal. IsNoProposal policy proposal fault before now))
 Means told before now Outcome.Done (Command.Audit audit) =
     IfSome (told audit.policy_a.name) (λ a. IfSome (told audit.policy_b.name) (λ b. IsAgreement a b before now))
 Means told before now Outcome.Differ (Command.Audit audit) =

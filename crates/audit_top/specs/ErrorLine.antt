@@ -7,6 +7,8 @@ use Rattle.spd_text.specs.DirectionText.{direction_text}
 use Rattle.spd_lanes.specs.Faults.{lane_fault_text}
 use Rattle.spd_order.specs.Fault.{order_fault_text}
 use Rattle.trace_text.specs.Fault.{event_fault_text}
+use Rattle.ts_wire.specs.declared.fault.ProposalFault.{ProposalFault}
+use Rattle.ts_wire.specs.Fault.{proposal_fault_text}
 use Rattle.audit_top.specs.declared.outcome.Outcome.{Outcome}
 use Rattle.audit_top.specs.declared.trace_fault.TraceFault.{TraceFault}
 
@@ -31,6 +33,10 @@ abbrev pub trace_line : ℕ → TraceFault → List ℕ
 trace_line line fault =
     codes "error: trace line " ++ (decimal line ++ (codes ": " ++ (trace_fault_text fault ++ codes "\n")))
 
+-- A text that is no proposal.
+abbrev pub proposal_line : ProposalFault → List ℕ
+proposal_line fault = codes "error: proposal: " ++ (proposal_fault_text fault ++ codes "\n")
+
 -- A text that is no certificate.
 abbrev pub certificate_line : ℕ → List ℕ
 certificate_line line = codes "error: certificate line " ++ (decimal line ++ codes "\n")
@@ -49,10 +55,12 @@ limit_line word direction line at =
 abbrev pub error_line : Outcome → Option (List ℕ)
 error_line Outcome.Done = None
 error_line Outcome.Differ = None
+error_line Outcome.Unacceptable = None
 error_line (Outcome.Rejected node) = None
 error_line Outcome.Usage = Some (codes "error: usage\n")
 error_line (Outcome.PolicyFault word fault) = Some (policy_line word fault)
 error_line (Outcome.TraceFault line fault) = Some (trace_line line fault)
+error_line (Outcome.ProposalFault fault) = Some (proposal_line fault)
 error_line (Outcome.CertFault line) = Some (certificate_line line)
 error_line (Outcome.TooLong word) = Some (word_line word (codes ": too long\n"))
 error_line (Outcome.EntryLimit word direction line at) = Some (limit_line word direction line at)

@@ -5,6 +5,7 @@ use Rattle.cmd_audit.specs.declared.command.AuditEnd.{AuditEnd}
 use Rattle.cmd_check.specs.declared.command.CheckEnd.{CheckEnd}
 use Rattle.cmd_judge.specs.declared.command.JudgeEnd.{JudgeEnd}
 use Rattle.cmd_judge.specs.declared.command.TraceFault.{TraceFault as JudgeFault}
+use Rattle.cmd_narrow.specs.declared.command.NarrowEnd.{NarrowEnd}
 use Rattle.cmd_replay.specs.declared.command.ReplayEnd.{ReplayEnd}
 use Rattle.cmd_replay.specs.declared.fault.TraceFault.{TraceFault as ReplayFault}
 use Rattle.spd_lanes.specs.Machine.{Machine}
@@ -55,7 +56,12 @@ abbrev pub left_by : ReplayEnd → Option Machine
 left_by (ReplayEnd.Done m) = Some m
 left_by (ReplayEnd.TraceFault line fault) = None
 
--- The outcome of an end of `audit`, and of one of `check`.
+-- The outcome of an end of `narrow`, of one of `audit`, and of one of `check`.
+abbrev pub narrowed : NarrowEnd → Outcome
+narrowed NarrowEnd.Done = Outcome.Done
+narrowed NarrowEnd.Unacceptable = Outcome.Unacceptable
+narrowed (NarrowEnd.ProposalFault fault) = Outcome.ProposalFault fault
+
 abbrev pub audited : AuditEnd → Outcome
 audited AuditEnd.Agree = Outcome.Done
 audited AuditEnd.Differ = Outcome.Differ
@@ -69,10 +75,12 @@ certified (CheckEnd.CertFault line) = Outcome.CertFault line
 abbrev pub status_of : Outcome → ℕ
 status_of Outcome.Done = 0
 status_of Outcome.Differ = 1
+status_of Outcome.Unacceptable = 1
 status_of (Outcome.Rejected node) = 1
 status_of Outcome.Usage = 2
 status_of (Outcome.PolicyFault word fault) = 3
 status_of (Outcome.TraceFault line fault) = 4
+status_of (Outcome.ProposalFault fault) = 4
 status_of (Outcome.CertFault line) = 4
 status_of (Outcome.TooLong word) = 4
 status_of (Outcome.EntryLimit word direction line at) = 5

@@ -10,6 +10,7 @@ use cmd_audit::{Audit, AuditEnd};
 use cmd_check::{Check, CheckEnd};
 use cmd_decorrelate::Decorrelate;
 use cmd_judge::Judge;
+use cmd_narrow::{Narrow, NarrowEnd};
 use cmd_replay::{Replay, ReplayEnd};
 use pair_io::{Files, Sink, WordList};
 use spd_lanes::Shared;
@@ -21,6 +22,7 @@ pub enum Command<'a> {
     Judge(Judge<'a>),
     Decorrelate(Decorrelate<'a>),
     Replay(Replay<'a>),
+    Narrow(Narrow<'a>),
     Audit(Audit<'a>),
     Check(Check<'a>),
 }
@@ -38,6 +40,9 @@ impl<'a> Command<'a> {
         }
         if let Some(replay) = Replay::from_words(words) {
             return Some(Command::Replay(replay));
+        }
+        if let Some(narrow) = Narrow::from_words(words) {
+            return Some(Command::Narrow(narrow));
         }
         if let Some(audit) = Audit::from_words(words) {
             return Some(Command::Audit(audit));
@@ -83,6 +88,15 @@ impl<'a> Command<'a> {
                 cmd_replay::laws::each_event_is_answered();
                 match replay.run(alloc, files, out) {
                     Ok(end) => keep(end, kept),
+                    Err(refusal) => Outcome::from(refusal),
+                }
+            }
+            Command::Narrow(narrow) => {
+                cmd_narrow::laws::the_proposal_is_answered();
+                match narrow.run(alloc, files, out) {
+                    Ok(NarrowEnd::Done) => Outcome::Done,
+                    Ok(NarrowEnd::Unacceptable) => Outcome::Unacceptable,
+                    Ok(NarrowEnd::ProposalFault { fault }) => Outcome::ProposalFault { fault },
                     Err(refusal) => Outcome::from(refusal),
                 }
             }

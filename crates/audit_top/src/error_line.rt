@@ -1,7 +1,7 @@
 ghost use Rattle.std.specs.Prelude.{◌≡◌, ◌≤◌, ◌++◌, codes, decimal, length, map, option_map};
 ghost use Rattle.audit_frame.specs.Answer.{text_of};
 ghost use Rattle.audit_top.specs.ErrorLine.{certificate_line, error_line, limit_line, policy_line};
-ghost use Rattle.audit_top.specs.ErrorLine.{trace_line, word_line};
+ghost use Rattle.audit_top.specs.ErrorLine.{proposal_line, trace_line, word_line};
 
 use crate::{Outcome, TraceFault};
 use arrayvec::ArrayString;
@@ -9,6 +9,7 @@ use itoa::Buffer;
 use sel_box::Direction;
 use spd_file::PolicyFault;
 use spd_text::direction_word;
+use ts_wire::ProposalFault;
 
 // Room for the longest line.
 const ROOM: usize = 160;
@@ -21,10 +22,11 @@ pub fn error_line_of(outcome: &Outcome) -> Option<ErrorLine>
     ensures { option_map (λ line. line.bytes) result ≡ error_line outcome.now }
 {
     match outcome {
-        Outcome::Done | Outcome::Differ | Outcome::Rejected { .. } => None,
+        Outcome::Done | Outcome::Differ | Outcome::Unacceptable | Outcome::Rejected { .. } => None,
         Outcome::Usage => Some(joined(&["error: usage\n"])),
         Outcome::PolicyFault { word, fault } => Some(line_of_policy(*word, fault)),
         Outcome::TraceFault { line, fault } => Some(line_of_trace(*line, fault)),
+        Outcome::ProposalFault { fault } => Some(line_of_proposal(fault)),
         Outcome::CertFault { line } => Some(line_of_certificate(*line)),
         Outcome::TooLong { word } => Some(line_of_word(*word, ": too long\n")),
         Outcome::EntryLimit {
@@ -97,6 +99,13 @@ fn line_of_cause(line: u64, mark: &str, cause: &str) -> ErrorLine
         cause,
         "\n",
     ])
+}
+
+fn line_of_proposal(fault: &ProposalFault) -> ErrorLine
+    ensures { result.bytes ≡ proposal_line fault.now }
+{
+    let fault = fault.text();
+    joined(&["error: proposal: ", fault.as_str(), "\n"])
 }
 
 fn line_of_certificate(line: u64) -> ErrorLine

@@ -7,6 +7,7 @@ use cmd_judge::JudgeEnd;
 use pair_io::NoMemory;
 use sel_box::Direction;
 use spd_file::PolicyFault;
+use ts_wire::ProposalFault;
 
 /// How a run ended. Words are counted from 1, the command being the first.
 #[derive(Clone, Copy, Debug, PartialEq, Eq)]
@@ -15,6 +16,8 @@ pub enum Outcome {
     Done,
     /// Some packet is judged differently by the two policies, and the least one was written.
     Differ,
+    /// Nothing of the proposal is acceptable, and that was written.
+    Unacceptable,
     /// A node of the certificate doesn't hold: the first, counted from 1.
     Rejected {
         node: u64,
@@ -30,6 +33,10 @@ pub enum Outcome {
     TraceFault {
         line: u64,
         fault: TraceFault,
+    },
+    /// The text is no proposal: its first fault.
+    ProposalFault {
+        fault: ProposalFault,
     },
     /// The text is no certificate: its first line, counted from 1, that is none of one.
     CertFault {
@@ -121,10 +128,12 @@ pub fn status(outcome: &Outcome) -> u8
     match outcome {
         Outcome::Done => 0,
         Outcome::Differ => 1,
+        Outcome::Unacceptable => 1,
         Outcome::Rejected { .. } => 1,
         Outcome::Usage => 2,
         Outcome::PolicyFault { .. } => 3,
         Outcome::TraceFault { .. } => 4,
+        Outcome::ProposalFault { .. } => 4,
         Outcome::CertFault { .. } => 4,
         Outcome::TooLong { .. } => 4,
         Outcome::EntryLimit { .. } => 5,

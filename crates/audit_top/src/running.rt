@@ -19,10 +19,12 @@ use std::alloc::Global;
 /// `decorrelate LIMIT POLICY` writes the entries that stand for the policy, of which no two of a
 /// direction have a point in common, as SPD-S, SPD-O and SPD-I (RFC 4301 section 4.4.1 and
 /// Appendix B); `replay LIMIT CACHE POLICY TRACE` gives each event of the trace to the shared
-/// machine of the policy, and writes its reply; `audit LIMIT POLICY_A POLICY_B` says whether B
-/// judges each packet that comes in as A judges it when it goes out, or shows the least one that it
-/// doesn't (RFC 4301 section 5); `check MOST POLICY_A POLICY_B CERTIFICATE` says whether the text
-/// is a certificate that they agree; no other words are a command.
+/// machine of the policy, and writes its reply; `narrow LIMIT POLICY PROPOSAL` writes what a
+/// responder with the policy accepts of a proposal of traffic selectors (RFC 7296 section 2.9);
+/// `audit LIMIT POLICY_A POLICY_B` says whether B judges each packet that comes in as A judges it
+/// when it goes out, or shows the least one that it doesn't (RFC 4301 section 5);
+/// `check MOST POLICY_A POLICY_B CERTIFICATE` says whether the text is a certificate that they
+/// agree; no other words are a command.
 ///
 /// Where the files tell their contents, the outcome and the text on `out` are the command's answer.
 /// A run that ends out of memory or at a write leaves a prefix of that text, and one that ends at
@@ -35,7 +37,8 @@ use std::alloc::Global;
 /// event. After every other outcome and command it holds none, whatever it held before.
 ///
 /// Each command says its cost: `cmd_judge::Judge::run`, `cmd_decorrelate::Decorrelate::run`,
-/// `cmd_replay::Replay::run`, `cmd_audit::Audit::run`, `cmd_check::Check::run`.
+/// `cmd_replay::Replay::run`, `cmd_narrow::Narrow::run`, `cmd_audit::Audit::run`,
+/// `cmd_check::Check::run`.
 pub fn run<F: Files, O: Sink, E: Sink>(
     alloc: Global,
     words: &WordList,

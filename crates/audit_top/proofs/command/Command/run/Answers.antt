@@ -1,8 +1,10 @@
--- What the laws of `audit` and `check` say, of an end of their own.
+-- What the laws of `narrow`, `audit` and `check` say, of an end of their own.
 use Rattle.std.proofs.Common.{◌≡◌, ℕ, List, Option, None, Some, IfSome, refl}
 use Rattle.cmd_audit.specs.declared.command.AuditEnd.{AuditEnd}
 use Rattle.cmd_audit.specs.Headline.{IsAgreement, IsDifference}
 use Rattle.cmd_check.specs.Headline.{IsAgreed}
+use Rattle.cmd_narrow.specs.declared.command.NarrowEnd.{NarrowEnd}
+use Rattle.cmd_narrow.specs.Headline.{IsNarrowed, IsNoProposal, IsUnacceptable}
 use Rattle.audit_top.proofs.command.Command.run.Goals as goal
 
 -- what holds of two contents, where both are told
@@ -19,6 +21,39 @@ of_three P None b c law = tt
 of_three P (Some x) None c law = tt
 of_three P (Some x) (Some y) None law = tt
 of_three P (Some x) (Some y) (Some z) law = law x y z refl refl refl
+
+pub returns-in-Ok-Done-clause-means : goal.returns-in-Ok-Done-clause-means
+returns-in-Ok-Done-clause-means g c =
+    let told = g.F.Files.told c.args.files.now in
+    let before = g.O.Sink.told c.args.out.now in
+    let now = g.O.Sink.told c.run-in-Narrow.new.out in
+    let narrow = c.in-Narrow.narrow in
+    let ends = rw (c.in-Ok-Done.is, c.in-Ok-Done.field-0-is) at c.run-in-Narrow.ensures.ends in
+    rw c.in-Narrow.is
+    (of_both (λ policy proposal. IsNarrowed policy proposal before now) (told narrow.policy.name) (told narrow.proposal.name)
+    (λ policy proposal p_is q_is. c.the_proposal_is_answered.ensures told narrow policy proposal before now NarrowEnd.Done p_is q_is ends))
+
+pub returns-in-Ok-Unacceptable-clause-means : goal.returns-in-Ok-Unacceptable-clause-means
+returns-in-Ok-Unacceptable-clause-means g c =
+    let told = g.F.Files.told c.args.files.now in
+    let before = g.O.Sink.told c.args.out.now in
+    let now = g.O.Sink.told c.run-in-Narrow.new.out in
+    let narrow = c.in-Narrow.narrow in
+    let ends = rw (c.in-Ok-Unacceptable.is, c.in-Ok-Unacceptable.field-0-is) at c.run-in-Narrow.ensures.ends in
+    rw c.in-Narrow.is
+    (of_both (λ policy proposal. IsUnacceptable policy proposal before now) (told narrow.policy.name) (told narrow.proposal.name)
+    (λ policy proposal p_is q_is. c.the_proposal_is_answered.ensures told narrow policy proposal before now NarrowEnd.Unacceptable p_is q_is ends))
+
+pub returns-in-Ok-ProposalFault-clause-means : goal.returns-in-Ok-ProposalFault-clause-means
+returns-in-Ok-ProposalFault-clause-means g c =
+    let told = g.F.Files.told c.args.files.now in
+    let before = g.O.Sink.told c.args.out.now in
+    let now = g.O.Sink.told c.run-in-Narrow.new.out in
+    let narrow = c.in-Narrow.narrow in
+    let ends = rw (c.in-Ok-ProposalFault.is, c.in-Ok-ProposalFault.field-0-is) at c.run-in-Narrow.ensures.ends in
+    rw c.in-Narrow.is
+    (of_both (λ policy proposal. IsNoProposal policy proposal c.in-Ok-ProposalFault.fault before now) (told narrow.policy.name) (told narrow.proposal.name)
+    (λ policy proposal p_is q_is. c.the_proposal_is_answered.ensures told narrow policy proposal before now (NarrowEnd.ProposalFault c.in-Ok-ProposalFault.fault) p_is q_is ends))
 
 pub returns-in-Ok-Agree-clause-means : goal.returns-in-Ok-Agree-clause-means
 returns-in-Ok-Agree-clause-means g c =
