@@ -11,14 +11,17 @@ use crate::remains::Remains;
 use crate::sides::can_write;
 use crate::{NoMemory, Ts};
 use sel_box::{AnyBox, OPAQUE_FIELD, Region, RegionList, has_real};
+use sel_tree::BoxTree;
 use std::alloc::Global;
 use std::marker::Model;
 
 /// The points that a proposal covers, as boxes: one for each pair of a selector of the initiator
 /// and one of the responder, where it isn't empty. A contract sees the list of the boxes.
+///
+/// They stand in a tree, so that those that meet a region are found without a look at each.
 #[derive(Drop)]
 pub struct Cover {
-    boxes: RegionList,
+    boxes: BoxTree,
 }
 
 impl Model for Cover {
@@ -34,13 +37,15 @@ impl Cover {
     /// The boxes of all pairs, by the selectors of the initiator and then those of the responder.
     /// Of selectors that a payload can have they have exactly the points that the proposal covers.
     ///
-    /// Takes time and memory by the number of pairs.
+    /// Takes time by n log n of the number of pairs, and memory for a tree of their boxes
+    /// (`sel_tree::BoxTree`).
     pub fn new(alloc: Global, tsi: &[Ts], tsr: &[Ts]) -> Result<Cover, NoMemory>
         ensures boxes { IfOk result (λ cover. cover ≡ pairs tsi.now tsr.now) }
         ensures points { AreSelectors tsi.now → AreSelectors tsr.now → (x : PointFields) →
             boxes_have (pairs tsi.now tsr.now) x ≡ covered tsi.now tsr.now x }
     {
-        let boxes = pairs(alloc, tsi, tsr)?;
+        let list = pairs(alloc, tsi, tsr)?;
+        let boxes = BoxTree::from_list(alloc, list)?;
         Ok(Cover { boxes })
     }
 
@@ -48,7 +53,8 @@ impl Cover {
     pub fn of_one(alloc: Global, region: AnyBox) -> Result<Cover, NoMemory>
         ensures { IfOk result (λ cover. cover ≡ region ∷ []) }
     {
-        let boxes = RegionList::of_one(alloc, region)?;
+        let list = RegionList::of_one(alloc, region)?;
+        let boxes = BoxTree::from_list(alloc, list)?;
         Ok(Cover { boxes })
     }
 
@@ -60,20 +66,22 @@ impl Cover {
     }
 
     /// Whether the region has a real point in some of the boxes. No memory.
+    ///
+    /// Looks at the boxes that meet the region alone, up to the first with which it has one.
     pub fn reaches(&self, region: &AnyBox) -> bool
         ensures test { result ≡ parts.reaches self.now region.now }
         ensures real { IsTrue result ↔ parts.Reaches self.now region.now }
     {
-        reaches(self.boxes.as_slice(), region)
+        reaches(&self.boxes, region)
     }
 
     /// Whether the region has a real point of a protocol from 1 to 255 in some of the boxes. No
-    /// memory.
+    /// memory; the time of `reaches`.
     pub fn says(&self, region: &AnyBox) -> bool
         ensures test { result ≡ parts.says self.now region.now }
         ensures real { IsTrue result ↔ parts.Says self.now region.now }
     {
-        says(self.boxes.as_slice(), region)
+        says(&self.boxes, region)
     }
 
     /// The region, where both its sides can be written as selectors; else the part of it that has
@@ -86,7 +94,7 @@ impl Cover {
         ensures writable { parts.says self.now region.now ≡ true
             → writing.can_write (writing.written_part self.now region.now) ≡ true }
     {
-        written_part(self.boxes.as_slice(), region)
+        written_part(&self.boxes, region)
     }
 
     /// What is left of the boxes, of which nothing is taken out yet. Takes memory for a copy.
@@ -97,17 +105,25 @@ impl Cover {
     }
 }
 
-// Whether the region has a real point in some of the boxes.
-#[tactic(auto, unfolding(crate::specs::RealParts::reaches))]
-fn reaches(boxes: &[AnyBox], region: &AnyBox) -> bool
+// Whether the region has a real point in some of the boxes, of which those are looked at that it
+// meets.
+fn reaches(boxes: &BoxTree, region: &AnyBox) -> bool
     ensures { result ≡ parts.reaches boxes.now region.now }
 {
-    boxes.iter().any(|other| real_meet(region, other))
+    sel_tree::laws::the_first_box_that_meets_is_found();
+    let mut from = 0;
+    while let Some(index) = boxes.first_met(from, region) {
+        if real_meet(region, &boxes.as_slice()[index]) {
+            return true;
+        }
+        from = index + 1;
+    }
+    false
 }
 
 // Whether the region has a sayable real point in some of the boxes.
 #[tactic(auto, unfolding(crate::specs::RealParts::says))]
-fn says(boxes: &[AnyBox], region: &AnyBox) -> bool
+fn says(boxes: &BoxTree, region: &AnyBox) -> bool
     ensures { result ≡ parts.says boxes.now region.now }
 {
     match of_protocols((1, 255), region) {
@@ -119,7 +135,7 @@ fn says(boxes: &[AnyBox], region: &AnyBox) -> bool
 // The region where it can be written, and else its first part of one protocol that reaches the
 // boxes.
 #[tactic(auto, unfolding(crate::specs::Writing::written_part))]
-fn written_part(boxes: &[AnyBox], region: &AnyBox) -> AnyBox
+fn written_part(boxes: &BoxTree, region: &AnyBox) -> AnyBox
     ensures { result ≡ writing.written_part boxes.now region.now }
 {
     if can_write(region) {
@@ -150,7 +166,7 @@ fn of_protocols(protocols: (u128, u128), region: &AnyBox) -> Option<AnyBox>
 
 // The part of one protocol, the first with which the region has a real point in some of the boxes.
 #[tactic(auto, unfolding(crate::specs::Writing::first_part))]
-fn first_part(boxes: &[AnyBox], region: &AnyBox) -> Option<AnyBox>
+fn first_part(boxes: &BoxTree, region: &AnyBox) -> Option<AnyBox>
     ensures { result ≡ writing.first_part boxes.now region.now }
 {
     (1..256_u128)
