@@ -2,3 +2,4 @@ pub mod Allowed
 pub mod Meets
 pub mod Narrowing
 pub mod Answered
+pub mod inner

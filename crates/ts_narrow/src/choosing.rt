@@ -1,11 +1,13 @@
 ghost use Rattle.std.specs.Prelude.{◌≡◌, ◌∷◌, [], IfOk, Some, find};
-ghost use Rattle.ts_cover.specs.RealParts.{leaves, says};
+ghost use Rattle.ts_cover.specs.RealParts.{says};
 ghost use Rattle.ts_narrow.specs.Meets as listed;
 ghost use Rattle.ts_narrow.specs.Narrowing as narrowing;
 
 use crate::NoMemory;
 use crate::choice::{Choice, Form};
-use crate::meets::{Meet, cut_by_meets};
+use crate::inbound::Inbound;
+use crate::leaving::leaves;
+use crate::meets::Meet;
 use crate::searching::first_meet;
 use crate::trying::{Reaching, Saying, Serving};
 use sel_box::AnyBox;
@@ -13,28 +15,11 @@ use spd_cut::Entry;
 use std::alloc::Global;
 use ts_cover::Cover;
 
-// Whether a real point of some boxes is in no meet of the line.
-#[tactic(auto, unfolding(ts_cover::specs::RealParts::leaves))]
-pub fn leaves(
-    alloc: Global,
-    outbound: &[Entry],
-    inbound: &[Entry],
-    cover: &Cover,
-    link: u32,
-) -> Result<bool, NoMemory>
-    ensures { IfOk result (λ left. left ≡ leaves cover.now
-        (listed.regions_of link (listed.meets outbound.now inbound.now))) }
-{
-    let mut remains = cover.remains(alloc)?;
-    cut_by_meets(outbound, inbound, link, &mut remains)?;
-    Ok(remains.has_real())
-}
-
 // What is chosen, where this meet is the first with a sayable real point in some pair.
 pub fn choose(
     alloc: Global,
     outbound: &[Entry],
-    inbound: &[Entry],
+    inbound: &Inbound,
     cover: &Cover,
     first: Option<AnyBox>,
     said: &Meet,
@@ -53,7 +38,7 @@ pub fn choose(
 fn choose_for(
     alloc: Global,
     outbound: &[Entry],
-    inbound: &[Entry],
+    inbound: &Inbound,
     cover: &Cover,
     only: &Cover,
     first: &AnyBox,
@@ -73,7 +58,7 @@ fn choose_for(
 fn kept_link(
     alloc: Global,
     outbound: &[Entry],
-    inbound: &[Entry],
+    inbound: &Inbound,
     only: &Cover,
     first: &AnyBox,
 ) -> Result<Option<u32>, NoMemory>
@@ -94,7 +79,7 @@ fn kept_link(
 // Cut to the first meet that serves, or the first two selectors alone.
 fn choose_by_serving(
     outbound: &[Entry],
-    inbound: &[Entry],
+    inbound: &Inbound,
     only: &Cover,
     first: &AnyBox,
     link: u32,
@@ -116,7 +101,7 @@ fn choose_by_serving(
 // Cut to the first meet with a sayable real point in the first pair, or else in some pair.
 fn choose_by_saying(
     outbound: &[Entry],
-    inbound: &[Entry],
+    inbound: &Inbound,
     cover: &Cover,
     only: &Cover,
     first: &AnyBox,

@@ -8,7 +8,10 @@ pub use ts_wire::{Proposal, Ts, TsList};
 
 mod choice;
 mod choosing;
+mod inbound;
 pub mod laws;
+mod leaving;
+mod line_meets;
 mod meets;
 mod narrowed;
 mod narrowing;

@@ -12,7 +12,9 @@ ghost use Rattle.ts_narrow.specs.Meets as listed;
 ghost use Rattle.ts_narrow.specs.Narrowing as meaning;
 
 use crate::choice::{Choice, Form};
-use crate::choosing::{choose, leaves};
+use crate::choosing::choose;
+use crate::inbound::Inbound;
+use crate::leaving::leaves;
 use crate::meets::Meet;
 use crate::searching::first_meet;
 use crate::trying::{Missing, Saying};
@@ -28,9 +30,10 @@ use ts_cover::{Cover, cut_selectors, first_pair, local_side, remote_side};
 /// line protects in both directions, and some packet of it; and the first pair of selectors is kept
 /// where one line protects all of it.
 ///
-/// Takes the time of each pair of an outbound and an inbound entry of one line, and where they meet
-/// of each pair of selectors, in a few passes; and memory for the pairs of selectors and for what
-/// is left of them while they are cut. After `NoMemory` there is no answer.
+/// Looks, in a few passes, at the pairs of an outbound and an inbound entry that meet, and with each
+/// at the pairs of selectors that meet both. Takes memory for trees of the inbound entries, of the
+/// pairs of selectors and of the meets of a line (`sel_tree::BoxTree`), and for what is left of the
+/// pairs while they are cut. After `NoMemory` there is no answer.
 pub fn narrow(
     alloc: Global,
     outbound: &[Entry],
@@ -73,11 +76,28 @@ pub fn narrow(
 }
 
 // The answer, by boxes.
-#[tactic(auto, unfolding(crate::specs::Narrowing::narrowing))]
 fn answer(
     alloc: Global,
     outbound: &[Entry],
     inbound: &[Entry],
+    tsi: &[Ts],
+    tsr: &[Ts],
+) -> Result<Narrowed, NoMemory>
+    requires tsi { AreSelectors tsi.now }
+    requires tsr { AreSelectors tsr.now }
+    ensures { IfOk result (λ answer. answer
+        ≡ meaning.narrowing outbound.now inbound.now tsi.now tsr.now) }
+{
+    let inbound = Inbound::new(alloc, inbound)?;
+    answer_by(alloc, outbound, &inbound, tsi, tsr)
+}
+
+// The same, by the inbound entries that each outbound one meets.
+#[tactic(auto, unfolding(crate::specs::Narrowing::narrowing))]
+fn answer_by(
+    alloc: Global,
+    outbound: &[Entry],
+    inbound: &Inbound,
     tsi: &[Ts],
     tsr: &[Ts],
 ) -> Result<Narrowed, NoMemory>
@@ -102,7 +122,7 @@ fn answer(
 fn chosen_answer(
     alloc: Global,
     outbound: &[Entry],
-    inbound: &[Entry],
+    inbound: &Inbound,
     cover: &Cover,
     tsi: &[Ts],
     tsr: &[Ts],
@@ -148,7 +168,7 @@ fn copied(alloc: Global, selectors: &[Ts]) -> Result<TsList, NoMemory>
 fn answer_of(
     alloc: Global,
     outbound: &[Entry],
-    inbound: &[Entry],
+    inbound: &Inbound,
     cover: &Cover,
     tsi: &[Ts],
     tsr: &[Ts],

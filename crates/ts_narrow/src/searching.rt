@@ -4,7 +4,8 @@ ghost use Rattle.ts_narrow.specs.declared.meets.Meet.{Meet};
 ghost use Rattle.ts_narrow.specs.Meets as listed;
 
 use crate::NoMemory;
-use crate::meets::{Meet, meet_of};
+use crate::inbound::Inbound;
+use crate::meets::{Meet, is_protect, meet_of};
 use spd_cut::Entry;
 
 // A test of meets.
@@ -20,7 +21,7 @@ pub trait MeetTest {
 #[tactic(auto, unfolding(crate::specs::Meets::meets))]
 pub fn first_meet<T: MeetTest>(
     outbound: &[Entry],
-    inbound: &[Entry],
+    inbound: &Inbound,
     test: &T,
 ) -> Result<Option<Meet>, NoMemory>
     ensures { IfOk result (λ found. found
@@ -35,18 +36,25 @@ pub fn first_meet<T: MeetTest>(
     Ok(None)
 }
 
-// The first of one outbound entry.
+// The first of one outbound entry. Only inbound entries are looked at that meet it, and none where
+// it doesn't protect.
 fn first_meet_with<T: MeetTest>(
     e: &Entry,
-    inbound: &[Entry],
+    inbound: &Inbound,
     test: &T,
 ) -> Result<Option<Meet>, NoMemory>
     ensures { IfOk result (λ found. found
         ≡ find (T.passes test.now) (listed.meets_with e.now inbound.now)) }
 {
-    for f in inbound {
-        if let Some(found) = passing_meet_of(e, f, test)? {
-            return Ok(Some(found));
+    if !is_protect(e.judgement) {
+        return Ok(None);
+    }
+    sel_tree::laws::the_first_box_that_meets_is_found();
+    let mut from = 0;
+    while let Some(index) = inbound.next_met(from, &e.region) {
+        match passing_meet_of(e, &inbound.as_slice()[index], test)? {
+            Some(found) => return Ok(Some(found)),
+            None => from = index + 1,
         }
     }
     Ok(None)
