@@ -22,11 +22,23 @@ pub fn ran(
     let mut out = MemSink::new(alloc, OUT_ROOM, failing(alloc, failure, "write ")?)?;
     let mut err = MemSink::new(alloc, ERR_ROOM, failing(alloc, failure, "report ")?)?;
     let words = words_of(alloc, words)?;
-    let ended = audit_top::run(alloc, &words, &mut files, &mut out, &mut err, kept);
+    let status = status_of(alloc, &words, &mut files, &mut out, &mut err, kept);
     let printed = str::from_utf8(out.as_slice())?;
     let reported = str::from_utf8(err.as_slice())?;
-    let status = audit_top::status(&ended);
     Ok(format!(in alloc; "{printed}{reported}= {status}\n")?)
+}
+
+// Runs the program, and gives its status.
+fn status_of(
+    alloc: Global,
+    words: &WordList,
+    files: &mut MemFiles,
+    out: &mut MemSink,
+    err: &mut MemSink,
+    kept: &mut Option<Shared>,
+) -> u8 {
+    let ended = audit_top::run(alloc, words, files, out, err, kept);
+    audit_top::status(&ended)
 }
 
 // The words of a text, between single spaces; none of the empty text.
