@@ -35,7 +35,7 @@ parts-families (Node.Split axis value) b = parts_family b (split_ranges axis val
 parts-families (Node.Leaf i j) b = refl
 parts-families Node.Void b = refl
 
-families_behind : (node : Node) (b : AnyBox) (boxes : List AnyBox)
+pub families_behind : (node : Node) (b : AnyBox) (boxes : List AnyBox)
     → map family_of (parts node b ++ boxes) ≡ opened node (family_of b) ++ map family_of boxes
 families_behind node b boxes =
     map-append family_of (parts node b) boxes ∙ ap (λ (families : List Family). families ++ map family_of boxes) (parts-families node b)

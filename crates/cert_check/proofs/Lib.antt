@@ -1,7 +1,6 @@
-mod Agrees
+pub mod Agrees
 mod Feeds
-mod Forms
-mod Gathers
+pub mod Forms
 mod Scans
 mod Sides
-mod Verdicts
+pub mod Verdicts

@@ -16,8 +16,8 @@ use Rattle.sel_box.specs.laws.BoxLaws.{box_laws}
 use Rattle.sel_tree.specs.FirstMet.{IsFirstMet, NoneMet}
 use Rattle.spd_line.specs.declared.judgement.Judgement.{Judgement}
 use Rattle.cert_text.specs.Rows.{Row, decided, decided_at, held, met}
-use Rattle.cert_check.specs.declared.boxes.Mark.{Mark}
-use Rattle.cert_check.specs.inner.Gathered.{marks_in, marks_of, regions_in, regions_of}
+use Rattle.cert_rows.specs.declared.boxes.Mark.{Mark}
+use Rattle.cert_rows.specs.Gathered.{marks_in, marks_of, regions_in, regions_of}
 use Rattle.cert_check.specs.inner.Scan.{scan}
 
 -- A box meets each box in which it lies.

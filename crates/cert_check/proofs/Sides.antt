@@ -10,14 +10,14 @@ use Rattle.cert_text.specs.Rows.{Row, a_rows, b_rows, decided_at}
 use Rattle.cert_text.specs.Valid.{holds, rule_of}
 use Rattle.cert_check.specs.declared.answer.CheckFault.{CheckFault}
 use Rattle.cert_check.specs.declared.answer.Checked.{Checked}
-use Rattle.cert_check.specs.declared.gateway.Gateway.TheVariants.{A, B}
+use Rattle.cert_rows.specs.declared.gateway.Gateway.TheVariants.{A, B}
 use Rattle.cert_check.specs.declared.side.Side.{Side}
 use Rattle.cert_check.specs.Answer.{check_answer}
-use Rattle.cert_check.specs.inner.Gathered.{AreGathered, rows_at}
+use Rattle.cert_rows.specs.Gathered.{AreGathered, rows_at}
 use Rattle.cert_check.specs.inner.Scan.{scan}
 use Rattle.cert_check.specs.inner.Steps.{answer_behind, behind_agree, decided_by, rule_by}
 use Rattle.cert_check.proofs.Forms.{by_nodes-behind, by_nodes-other}
-use Rattle.cert_check.proofs.Gathers.{rows_at-a, rows_at-b}
+use Rattle.cert_rows.proofs.Gathers.{rows_at-a, rows_at-b}
 use Rattle.cert_check.proofs.Scans.{scan-rows}
 
 side-decides : (side : Side) (rows : List Row) → AreGathered rows side.regions side.marks.items → decided_by side ≡ decided_at rows

@@ -112,6 +112,40 @@ module _ (laws : PolicyLaws) where
         go true own later = refl
         go false own later = refl
 
+  -- The first box that has a packet's outbound view is judged as A judges the packet when it goes out, of the boxes of A, and
+  -- of those of B as B judges it when it comes in.
+
+  pub a-judges : (a : List LineParts) (p : PacketFields) → is_packet p ≡ true
+      → first_of (view_of Outbound p) (a_rows a) ≡ Some (verdict_of Outbound (view_of Outbound p) a).judgement
+  a-judges a p packet = rows-first Outbound (view_of Outbound p) (laws.point (view_of Outbound p) (Outbound, (p, (packet, refl)))) a
+
+  pub b-judges : (b : List LineParts) (p : PacketFields) → is_packet p ≡ true
+      → first_of (view_of Outbound p) (b_rows b) ≡ Some (verdict_of Inbound (view_of Inbound p) b).judgement
+  b-judges b p packet =
+      first_of-turned (view_of Outbound p) (rows_of Inbound b)
+      ∙ rows-first Inbound (view_of Inbound p) (laws.point (view_of Inbound p) (Inbound, (p, (packet, refl)))) b
+
+  -- So does a line that decides a box with the packet.
+
+  some_same : (x y : Judgement) → Some x ≡ Some y → x ≡ y
+  some_same x y same = cc
+
+  pub a-decides : (a : List LineParts) (p : PacketFields) → is_packet p ≡ true → (box : AnyBox) → box_has box (view_of Outbound p) ≡ true
+      → (i : ℕ) (found : Judgement) → decided_at (a_rows a) i box ≡ Some found → (verdict_of Outbound (view_of Outbound p) a).judgement ≡ found
+  a-decides a p packet box has i found is =
+      let x = view_of Outbound p in
+      some_same (verdict_of Outbound x a).judgement found
+      (sym (a-judges a p packet) ∙ decided_at-first x box has (a_rows a) (rows-alike Outbound x a) i found is)
+
+  pub b-decides : (b : List LineParts) (p : PacketFields) → is_packet p ≡ true → (box : AnyBox) → box_has box (view_of Outbound p) ≡ true
+      → (j : ℕ) (found : Judgement) → decided_at (b_rows b) j box ≡ Some found → (verdict_of Inbound (view_of Inbound p) b).judgement ≡ found
+  b-decides b p packet box has j found is =
+      let x = view_of Outbound p in
+      let y = view_of Inbound p in
+      some_same (verdict_of Inbound y b).judgement found
+      (sym (b-judges b p packet)
+      ∙ decided_at-first x box has (b_rows b) (alike-turned x (rows_of Inbound b) (rows-alike Inbound y b)) j found is)
+
   module _ (a b : List LineParts) where
     -- Both policies judge the packets of the box alike, where it has their outbound views.
     abbrev JudgeAlike : AnyBox → Type 0
@@ -128,20 +162,8 @@ module _ (laws : PolicyLaws) where
 
     leaf-alike : (i j : ℕ) (box : AnyBox) → both_same (decided_at (a_rows a) i box) (decided_at (b_rows b) j box) ≡ true → JudgeAlike box
     leaf-alike i j box same p packet has =
-        let x = view_of Outbound p in
-        let y = view_of Inbound p in
         let found = both_judge (decided_at (a_rows a) i box) (decided_at (b_rows b) j box) same in
-        let ours : Some (verdict_of Outbound x a).judgement ≡ Some found.0 =
-        sym (rows-first Outbound x (laws.point x (Outbound, (p, (packet, refl)))) a)
-        ∙ decided_at-first x box has (a_rows a) (rows-alike Outbound x a) i found.0 found.2 in
-        let theirs : Some (verdict_of Inbound y b).judgement ≡ Some found.1 =
-        sym (rows-first Inbound y (laws.point y (Inbound, (p, (packet, refl)))) b)
-        ∙ sym (first_of-turned x (rows_of Inbound b))
-        ∙ decided_at-first x box has (b_rows b) (alike-turned x (rows_of Inbound b) (rows-alike Inbound y b)) j found.1 found.3 in
-        let equal : found.0 ≡ found.1 = laws.equal found.0 found.1 found.4 in
-        let mine : (verdict_of Outbound x a).judgement ≡ found.0 = cc in
-        let others : (verdict_of Inbound y b).judgement ≡ found.1 = cc in
-        mine ∙ equal ∙ sym others
+        a-decides a p packet box has i found.0 found.2 ∙ laws.equal found.0 found.1 found.4 ∙ sym (b-decides b p packet box has j found.1 found.3)
 
     void-alike : (box : AnyBox) → not (has_packet box) ≡ true → JudgeAlike box
     void-alike box none p packet has =

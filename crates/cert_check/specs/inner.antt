@@ -1,4 +1,3 @@
 -- Words of the checker's own steps. No public clause cites these.
-pub mod Gathered
 pub mod Scan
 pub mod Steps

@@ -6,10 +6,7 @@ pub use checking::check;
 pub use lists::NoMemory;
 
 mod answer;
-mod boxes;
 mod checking;
-mod gateway;
 pub mod laws;
 mod rule;
 mod side;
-mod todo;

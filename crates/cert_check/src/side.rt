@@ -1,11 +1,10 @@
 ghost use Rattle.std.specs.Prelude.{◌≡◌, ◌≤◌, length, IfOk};
 ghost use Rattle.spd_line.specs.Policy.{most_lines};
-ghost use Rattle.cert_check.specs.inner.Gathered.{AreGathered, rows_at};
+ghost use Rattle.cert_rows.specs.Gathered.{AreGathered, rows_at};
 ghost use Rattle.cert_check.specs.inner.Scan.{scan};
 
 use crate::NoMemory;
-use crate::boxes::{Boxes, Mark};
-use crate::gateway::Gateway;
+use cert_rows::{Boxes, Gateway, Mark};
 use sel_box::{AnyBox, Region};
 use sel_tree::BoxTree;
 use spd_line::{Judgement, Lines};

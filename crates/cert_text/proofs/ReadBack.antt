@@ -2,11 +2,11 @@
 use Rattle.std.proofs.Common.{◌≡◌, ℕ, zero, suc, ◌+◌, ◌/◌, ◌%◌, ◌^◌, ◌<◌, ◌≤◌, true, false, cond, ◌==◌, min, map, not, List, [], ◌∷◌, ◌++◌, codes, decimal}
 use Rattle.std.proofs.Common.{Some, None, refl, ap, ◌∙◌, arith}
 use Rattle.std.specs.Char.{digit_char, is_ascii_digit}
-use Rattle.std.specs.List.{AllByRecursion, join_with_byte}
+use Rattle.std.specs.List.{AllByRecursion, join_with_byte, onto_first}
 use Rattle.std.specs.Option.{option_and_then, option_map}
 use Rattle.std.specs.Result.{result_ok}
 use Rattle.std.specs.Str.{bytes_eq}
-use Rattle.std.proofs.lemmas.Bool.{and_from}
+use Rattle.std.proofs.lemmas.Bool.{and_from, and_parts, not-true}
 use Rattle.std.proofs.lemmas.Bool.Decides.{nat_tests}
 use Rattle.std.proofs.lemmas.List.Folds.{list_all-append}
 use Rattle.std.proofs.lemmas.Slice.Eq.{bytes_eq-Decides}
@@ -15,6 +15,7 @@ use Rattle.sel_box.specs.declared.any_box.AxisName.TheVariants.{Local, Remote, P
 use Rattle.sel_text.specs.declared.family.Family.{Family}
 use Rattle.sel_text.specs.declared.family.Family.TheVariants.{Four, Six}
 use Rattle.sel_text.specs.Family.{address_from, last_address}
+use Rattle.sel_text.specs.Lines.{lines_of}
 use Rattle.sel_text.specs.Parts.{cut}
 use Rattle.sel_text.specs.Text.{address_text, four_text, group_text, lowest_groups, six_text}
 use Rattle.sel_text.proofs.Cuts.{cut_at, lacks, tests_lack}
@@ -142,19 +143,42 @@ read_line : (family : Family) (words : List ℕ) (node : Node) → lacks 10 word
 read_line family words node free is =
     ap (option_and_then (node_in family)) (ap (option_and_then ended) (cut_at 10 words [] free)) ∙ is
 
+-- The words of a node have no LF.
+node_words-lack : (family : Family) (node : Node) → IsWritable family node → lacks 10 (node_words family node) ≡ true
+node_words-lack family (Node.Split axis value) within =
+    lacks-append 10 (axis_text axis) (32 ∷ value_text family axis value) (lacks-axis axis).0 (lacks-value family axis value within)
+node_words-lack family (Node.Leaf a b) within =
+    let a_small : a < 2 ^ 128 = omega (arith, within.0.1) in
+    let b_small : b < 2 ^ 128 = omega (arith, within.1.1) in
+    lacks-append 10 (decimal a) (32 ∷ decimal b) (lacks-decimal 10 a refl a_small) (lacks-decimal 10 b refl b_small)
+node_words-lack family Node.Void within = refl
+
+-- So its line is the first of a text that begins with it.
+
+lines_of-line : (words rest : List ℕ) → lacks 10 words ≡ true → lines_of ((words ++ codes "\n") ++ rest) ≡ (words ++ codes "\n") ∷ lines_of rest
+lines_of-line [] rest free = refl
+lines_of-line (byte ∷ words) rest free =
+    let both = and_parts (not (byte == 10)) (lacks 10 words) free in
+    ap (λ feed. cond feed ((byte ∷ []) ∷ lines_of ((words ++ codes "\n") ++ rest)) (onto_first byte (lines_of ((words ++ codes "\n") ++ rest))))
+    (not-true (byte == 10) both.0)
+    ∙ ap (onto_first byte) (lines_of-line words rest both.1)
+
+pub lines_of-node : (family : Family) (node : Node) (rest : List ℕ) → IsWritable family node
+    → lines_of (node_text family node ++ rest) ≡ node_text family node ∷ lines_of rest
+lines_of-node family node rest within = lines_of-line (node_words family node) rest (node_words-lack family node within)
+
 pub node_of-text : (family : Family) (node : Node) → IsWritable family node → node_of family (node_text family node) ≡ Some node
 node_of-text family (Node.Split axis value) within =
     let read = ap (option_and_then (split_on family (value_text family axis value))) (axis_of-text axis)
     ∙ ap (option_map (λ value. Node.Split axis value)) (value_of-text family axis value within) in
     read_line family (node_words family (Node.Split axis value)) (Node.Split axis value)
-    (lacks-append 10 (axis_text axis) (32 ∷ value_text family axis value) (lacks-axis axis).0 (lacks-value family axis value within))
+    (node_words-lack family (Node.Split axis value) within)
     (read_kind family (codes "split") (axis_text axis) (value_text family axis value) (Node.Split axis value) refl refl (lacks-axis axis).1 read)
 node_of-text family (Node.Leaf a b) within =
     let a_small : a < 2 ^ 128 = omega (arith, within.0.1) in
-    let b_small : b < 2 ^ 128 = omega (arith, within.1.1) in
     let read = ap (option_and_then (leaf_at (decimal b))) (place_of-text a within.0)
     ∙ ap (option_map (λ b. Node.Leaf a b)) (place_of-text b within.1) in
     read_line family (node_words family (Node.Leaf a b)) (Node.Leaf a b)
-    (lacks-append 10 (decimal a) (32 ∷ decimal b) (lacks-decimal 10 a refl a_small) (lacks-decimal 10 b refl b_small))
+    (node_words-lack family (Node.Leaf a b) within)
     (read_kind family (codes "leaf") (decimal a) (decimal b) (Node.Leaf a b) refl refl (lacks-decimal 32 a refl a_small) read)
 node_of-text family Node.Void within = refl

@@ -4,7 +4,7 @@ use Rattle.std.specs.Option.{is_some}
 use Rattle.sel_box.specs.declared.any_box.AnyBox.{AnyBox}
 use Rattle.sel_box.specs.BoxRegion.{box_meet, box_within}
 use Rattle.spd_line.specs.declared.judgement.Judgement.{Judgement}
-use Rattle.cert_check.specs.declared.boxes.Mark.{Mark}
+use Rattle.cert_rows.specs.declared.boxes.Mark.{Mark}
 
 -- How the line decides the box: of the boxes that meet it, those before the first in which it lies are of the line, and
 -- that one too.

@@ -1,6 +1,6 @@
 use Rattle.std.proofs.Common.{length, sym, ap, ◌∙◌}
-use Rattle.cert_check.specs.inner.Gathered.{rows_at}
-use Rattle.cert_check.proofs.Gathers.{marks-length}
+use Rattle.cert_rows.specs.Gathered.{rows_at}
+use Rattle.cert_rows.proofs.Gathers.{marks-length}
 use Rattle.cert_check.proofs.side.Side.new.Goals as goal
 
 pub invariant_of-result : goal.invariant_of-result

@@ -1,7 +1,7 @@
 ghost use Rattle.std.specs.Prelude.{◌≡◌, ◌≤◌, ◌++◌, [], length, IfOk, OnOk};
 ghost use Rattle.spd_line.specs.Policy.{most_lines};
-ghost use Rattle.cert_check.specs.inner.Gathered.{AreGathered, marks_in, regions_in};
-ghost use Rattle.cert_check.specs.inner.Gathered.{row_seen, rows_at};
+ghost use Rattle.cert_rows.specs.Gathered.{AreGathered, marks_in, regions_in};
+ghost use Rattle.cert_rows.specs.Gathered.{row_seen, rows_at};
 
 use crate::NoMemory;
 use crate::gateway::Gateway;
@@ -9,14 +9,14 @@ use sel_box::AnyBox;
 use spd_line::{Judgement, LineBox, Lines};
 use std::alloc::Global;
 
-// The line of a box, counted from 1, and how the line judges the box.
+/// The line of a box, counted from 1, and how the line judges the box.
 #[derive(Clone, Copy)]
 pub struct Mark {
     pub line: u32,
     pub judgement: Judgement,
 }
 
-// Boxes, line by line: the region of each, and its mark.
+/// Boxes, line by line: the region of each, and its mark at the same index.
 #[derive(Drop)]
 pub struct Boxes {
     pub regions: Vec<AnyBox>,
@@ -24,7 +24,10 @@ pub struct Boxes {
 }
 
 impl Boxes {
-    // The boxes of a gateway's policy, those of `final` last.
+    /// The boxes of a gateway's policy as A sees them, in the order of its lines and within a line
+    /// in the order of `spd_line::boxes`, those of `final` last.
+    ///
+    /// Takes time and memory in proportion to the boxes, some 200 bytes for each.
     pub fn gather<L: Lines>(alloc: Global, lines: &L, gateway: Gateway) -> Result<Boxes, NoMemory>
         requires { length (L.lines lines.now) ≤ most_lines }
         ensures { IfOk result (λ boxes. AreGathered (rows_at gateway (L.lines lines.now))

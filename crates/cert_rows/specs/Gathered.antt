@@ -1,4 +1,4 @@
--- The boxes of a policy, line by line.
+-- The boxes of a policy, line by line (RFC 4301 section 4.4.1).
 use Rattle.std.specs.Prelude.{◌≡◌, ℕ, ◌+◌, List, [], ◌∷◌, ◌++◌, map}
 use Rattle.sel_box.specs.declared.any_box.AnyBox.{AnyBox}
 use Rattle.sel_box.specs.declared.packet.Direction.{Direction}
@@ -6,11 +6,11 @@ use Rattle.sel_box.specs.declared.packet.Direction.TheVariants.{Outbound, Inboun
 use Rattle.spd_line.specs.declared.line.LineParts.{LineParts}
 use Rattle.spd_line.specs.declared.line_boxes.LineBox.{LineBox}
 use Rattle.cert_text.specs.Rows.{Row, rows_of, turned_box}
-use Rattle.cert_check.specs.declared.gateway.Gateway.{Gateway}
-use Rattle.cert_check.specs.declared.gateway.Gateway.TheVariants.{A, B}
-use Rattle.cert_check.specs.declared.boxes.Mark.{Mark}
+use Rattle.cert_rows.specs.declared.gateway.Gateway.{Gateway}
+use Rattle.cert_rows.specs.declared.gateway.Gateway.TheVariants.{A, B}
+use Rattle.cert_rows.specs.declared.boxes.Mark.{Mark}
 
--- The direction in which a gateway sees the packets, and a box of its policy as A sees it.
+-- The direction in which a gateway sees the packets, and a box of its policy as A sees it, from which they go out.
 abbrev pub direction_of : Gateway → Direction
 direction_of A = Outbound
 direction_of B = Inbound

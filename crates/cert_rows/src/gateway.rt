@@ -1,10 +1,10 @@
 ghost use Rattle.std.specs.Prelude.{◌≡◌};
-ghost use Rattle.cert_check.specs.inner.Gathered.{box_seen, direction_of};
+ghost use Rattle.cert_rows.specs.Gathered.{box_seen, direction_of};
 
 use sel_box::{Direction, swap};
 use spd_line::LineBox;
 
-// The two gateways: packets go out from A, and come in at B.
+/// The two gateways: packets go out from A, and come in at B.
 #[derive(Clone, Copy, Debug, PartialEq, Eq)]
 pub enum Gateway {
     A,
@@ -12,7 +12,7 @@ pub enum Gateway {
 }
 
 impl Gateway {
-    // The direction in which its policy judges these packets.
+    /// The direction in which its policy judges these packets.
     pub fn direction(self) -> Direction
         ensures { result ≡ direction_of self }
     {
@@ -22,7 +22,7 @@ impl Gateway {
         }
     }
 
-    // A box of its policy, as A sees it.
+    /// A box of its policy, as A sees it: the sides of B's are exchanged.
     pub fn box_seen(self, part: &LineBox) -> LineBox
         ensures { result ≡ box_seen self part.now }
     {

@@ -8,10 +8,10 @@ use Rattle.spd_line.specs.declared.line_boxes.LineBox.{LineBox}
 use Rattle.spd_line.specs.First.{line_at}
 use Rattle.spd_line.specs.LineBoxes.{line_boxes}
 use Rattle.cert_text.specs.Rows.{Row, a_rows, b_rows}
-use Rattle.cert_check.specs.declared.boxes.Mark.{Mark}
-use Rattle.cert_check.specs.declared.gateway.Gateway.{Gateway}
-use Rattle.cert_check.specs.declared.gateway.Gateway.TheVariants.{A, B}
-use Rattle.cert_check.specs.inner.Gathered.{direction_of, marks_in, marks_of, regions_in, regions_of, row_seen, rows_at}
+use Rattle.cert_rows.specs.declared.boxes.Mark.{Mark}
+use Rattle.cert_rows.specs.declared.gateway.Gateway.{Gateway}
+use Rattle.cert_rows.specs.declared.gateway.Gateway.TheVariants.{A, B}
+use Rattle.cert_rows.specs.Gathered.{direction_of, marks_in, marks_of, regions_in, regions_of, row_seen, rows_at}
 
 drop_found : (lines : List LineParts) (k : ℕ) (line : LineParts) → slice_get lines k ≡ Some line → drop k lines ≡ line ∷ drop (suc k) lines
 drop_found [] k line is = cc

@@ -1,6 +1,6 @@
 use Rattle.std.proofs.Common.{◌≡◌, ◌++◌, take}
-use Rattle.cert_check.specs.inner.Gathered.{marks_in, regions_in, row_seen}
-use Rattle.cert_check.proofs.boxes.Boxes.add_row.Given as goal
+use Rattle.cert_rows.specs.Gathered.{marks_in, regions_in, row_seen}
+use Rattle.cert_rows.proofs.boxes.Boxes.add_row.Given as goal
 
 abbrev pub invariant-loop-part : goal.invariant-loop-part
 invariant-loop-part l = record {

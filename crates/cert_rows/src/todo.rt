@@ -7,9 +7,12 @@ use sel_box::{AnyBox, Family};
 use std::alloc::Global;
 use std::marker::Model;
 
-// The boxes whose trees are still to come, in the order of their trees: the next one is at the end.
+/// The boxes whose trees are still to come, in the order of their trees: of a certificate that is
+/// read or written from its first node on, so that nothing recurses. A contract sees the list, the
+/// next box first.
 #[derive(Drop)]
 pub struct Todo {
+    // The next one is at the end.
     boxes: Vec<AnyBox>,
 }
 
@@ -23,7 +26,7 @@ impl Model for Todo {
 }
 
 impl Todo {
-    // The boxes of a certificate: all of IPv4, and then all of IPv6.
+    /// The boxes of a certificate: all of IPv4, and then all of IPv6.
     #[tactic(auto, unfolding(cert_text::specs::Valid::whole_boxes))]
     pub fn new(alloc: Global) -> Result<Todo, NoMemory>
         ensures { IfOk result (λ todo. todo ≡ whole_boxes) }
@@ -34,15 +37,15 @@ impl Todo {
         Ok(Todo { boxes })
     }
 
-    // Takes the next box away.
+    /// Takes the next box away; `None` exactly where none is left. Takes no memory.
     pub fn pop(&mut self) -> Option<AnyBox>
         ensures { MatchOption result (self.old ≡ []) (λ region. self.old ≡ region ∷ self.new) }
     {
         self.boxes.pop()
     }
 
-    // Puts the boxes of the trees behind a node first: of a split the two parts of its box, or the
-    // box itself twice where it can't be split there.
+    /// Puts the boxes of the trees behind a node first: of a split the two parts of its box, or the
+    /// box itself twice where it can't be split there.
     pub fn add_parts(&mut self, node: &Node, region: &AnyBox) -> Result<(), NoMemory>
         ensures { OnOk result (self.new ≡ parts node.now region.now ++ self.old) }
     {

@@ -1,7 +1,7 @@
 use Rattle.std.proofs.Common.{◌∙◌, ap}
 use Rattle.spd_line.specs.LineBoxes.{line_boxes}
-use Rattle.cert_check.proofs.Gathers.{gathered-marks, gathered-regions}
-use Rattle.cert_check.proofs.boxes.Boxes.gather.Goals as goal
+use Rattle.cert_rows.proofs.Gathers.{gathered-marks, gathered-regions}
+use Rattle.cert_rows.proofs.boxes.Boxes.gather.Goals as goal
 
 pub loop-place-preserved : goal.loop-place-preserved
 loop-place-preserved g c =

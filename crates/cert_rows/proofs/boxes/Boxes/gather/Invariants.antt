@@ -1,6 +1,6 @@
 use Rattle.std.proofs.Common.{◌≡◌, ◌-◌, ◌++◌, drop}
-use Rattle.cert_check.specs.inner.Gathered.{marks_of, regions_of, rows_at}
-use Rattle.cert_check.proofs.boxes.Boxes.gather.Given as goal
+use Rattle.cert_rows.specs.Gathered.{marks_of, regions_of, rows_at}
+use Rattle.cert_rows.proofs.boxes.Boxes.gather.Given as goal
 
 -- What is gathered and the boxes of the lines that are left are the boxes of all.
 abbrev pub invariant-loop-place : goal.invariant-loop-place
