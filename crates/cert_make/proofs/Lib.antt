@@ -1,0 +1,9 @@
+mod Cuts
+mod Decides
+mod Gathering
+pub mod ReadsBack
+mod Smaller
+mod Steps
+pub mod Trees
+mod Validity
+mod Writable

@@ -1,0 +1,56 @@
+-- What is left to write before a node, and behind it.
+use Rattle.std.proofs.Common.{◌≡◌, ◌<◌, List, [], ◌∷◌, ◌++◌, length, sym, ap, ap₂, ◌∙◌, arith}
+use Rattle.std.specs.List.{concat}
+use Rattle.sel_box.specs.declared.any_box.AnyBox.{AnyBox}
+use Rattle.sel_box.specs.Boxes.{family_of}
+use Rattle.sel_text.specs.declared.family.Family.{Family}
+use Rattle.cert_text.specs.declared.node.Node.{Node}
+use Rattle.cert_text.specs.NodeText.{node_text}
+use Rattle.spd_line.specs.declared.line.LineParts.{LineParts}
+use Rattle.cert_text.specs.Valid.{parts, whole_boxes}
+use Rattle.cert_rows.specs.declared.gateway.Gateway.TheVariants.{A, B}
+use Rattle.cert_rows.specs.Gathered.{rows_at}
+use Rattle.cert_rows.proofs.Gathers.{rows_at-a, rows_at-b}
+use Rattle.cert_make.specs.declared.listed.Listed.{Listed}
+use Rattle.cert_make.specs.declared.placed.PlacedBox.{PlacedBox}
+use Rattle.cert_make.specs.Rule.{node_for, placed}
+use Rattle.cert_make.specs.Text.{node_lines, nodes_text}
+use Rattle.cert_make.specs.Trees.{made_nodes, trees_of}
+use Rattle.cert_make.specs.inner.Sides.{node_by, placed_of, trees_text}
+use Rattle.cert_make.proofs.Smaller.{trees_of-none, trees_of-step}
+
+-- The text by the boxes that were gathered of two policies is that of the nodes that are made of them.
+pub made_text : (ours theirs : Listed) (a b : List LineParts) → placed_of ours ≡ placed 1 (rows_at A a)
+    → placed_of theirs ≡ placed 1 (rows_at B b) → trees_text (node_by ours theirs) whole_boxes ≡ nodes_text (made_nodes a b)
+made_text ours theirs a b ours_are theirs_are =
+    ap₂ (λ (x y : List PlacedBox). trees_text (node_for x y) whole_boxes)
+    (ours_are ∙ ap (placed 1) (rows_at-a a)) (theirs_are ∙ ap (placed 1) (rows_at-b b))
+
+module _ (ours theirs : Listed) where
+  -- Nothing is left where no box is.
+  pub left_none : (todo : List AnyBox) → todo ≡ [] → trees_text (node_by ours theirs) todo ≡ []
+  left_none todo is =
+      ap (trees_text (node_by ours theirs)) is
+      ∙ ap (λ (nodes : List Node). concat (node_lines nodes [])) (trees_of-none (placed_of ours) (placed_of theirs))
+
+  module _ (node : Node) (b : AnyBox) (todo boxes boxes' : List AnyBox)
+      (todo_is : todo ≡ b ∷ boxes) (node_is : node ≡ node_by ours theirs b) (boxes_is : boxes' ≡ parts node b ++ boxes)
+    where
+      nodes_left : trees_of (node_by ours theirs) todo ≡ node ∷ trees_of (node_by ours theirs) boxes'
+      nodes_left =
+          ap (trees_of (node_by ours theirs)) todo_is
+          ∙ trees_of-step (placed_of ours) (placed_of theirs) b boxes
+          ∙ ap (λ (n : Node). n ∷ trees_of (node_by ours theirs) (parts n b ++ boxes)) (sym node_is)
+          ∙ ap (λ (left : List AnyBox). node ∷ trees_of (node_by ours theirs) left) (sym boxes_is)
+
+      -- The text that is left begins with the line of the first box's node.
+      pub left_begins : (family : Family) → family ≡ family_of b
+          → trees_text (node_by ours theirs) todo ≡ node_text family node ++ trees_text (node_by ours theirs) boxes'
+      left_begins family family_is =
+          ap₂ (λ (nodes : List Node) (left : List AnyBox). concat (node_lines nodes left)) nodes_left todo_is
+          ∙ ap₂ (λ (f : Family) (left : List AnyBox). node_text f node ++ concat (node_lines (trees_of (node_by ours theirs) boxes') left))
+          (sym family_is) (sym boxes_is)
+
+      -- And fewer nodes are left behind it.
+      pub left_fewer : length (trees_of (node_by ours theirs) boxes') < length (trees_of (node_by ours theirs) todo)
+      left_fewer = omega (arith, ap length nodes_left)

@@ -1,0 +1,5 @@
+pub mod Fault
+pub mod Rule
+pub mod Text
+pub mod Trees
+pub mod inner

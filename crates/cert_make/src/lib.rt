@@ -1,0 +1,14 @@
+//! The maker of certificates: it writes the trees that show that two policies agree (RFC 4301
+//! section 5).
+#![tactic(auto)]
+
+pub use fault::MakeFault;
+pub use lists::NoMemory;
+pub use writing::make;
+
+mod fault;
+pub mod laws;
+mod listed;
+mod placed;
+mod rule;
+mod writing;
