@@ -1,5 +1,5 @@
 -- The stages of a run: A's policy is read and cut outbound, then B's is read and cut inbound, and then the answer is written.
-use Rattle.std.proofs.Common.{◌≡◌, ℕ, ◌≤◌, List, length, Option, None, Some, Result, Ok, Err, lit<, refl, arith}
+use Rattle.std.proofs.Common.{◌≡◌, ℕ, ◌≤◌, List, length, Option, None, Some, Result, Ok, Err, refl, arith}
 use Rattle.std.specs.Prelude.{Contains, IfSome}
 use Rattle.pair_io.specs.Counts.{NoneFell}
 use Rattle.sel_box.specs.declared.packet.Direction.TheVariants.{Outbound, Inbound}
@@ -8,7 +8,7 @@ use Rattle.spd_file.specs.Policy.{policy_meaning}
 use Rattle.spd_line.specs.declared.line.LineParts.{LineParts}
 use Rattle.audit_frame.specs.declared.refusal.Refusal.{Refusal}
 use Rattle.audit_frame.specs.Answer.{most_policy, with_policy}
-use Rattle.audit_frame.specs.Causes.{InputFile, Reads}
+use Rattle.audit_frame.specs.Causes.{Reads}
 use Rattle.audit_frame.specs.Loading.{LimitCauses, PolicyCauses, policy_file}
 use Rattle.audit_frame.specs.Runs.{Runs}
 use Rattle.audit_frame.proofs.Further.{Runs-over_before, Runs-within_before}

@@ -4,13 +4,14 @@ use Rattle.std.specs.Prelude.{ℕ, ◌++◌, codes, List, [], ◌∷◌, Option,
 use Rattle.sel_box.specs.declared.packet.Direction.TheVariants.{Outbound, Inbound}
 use Rattle.sel_box.specs.Packet.{PacketFields}
 use Rattle.spd_cut.specs.Entries.{entries}
-use Rattle.spd_cut.specs.Steps.{first_over, steps}
 use Rattle.spd_line.specs.declared.judgement.Answer.{Answer as VerdictAnswer}
 use Rattle.spd_line.specs.declared.judgement.Verdict.{Verdict}
 use Rattle.spd_line.specs.declared.line.LineParts.{LineParts}
 use Rattle.spd_line.specs.First.{name_at}
 use Rattle.spd_text.specs.JudgementText.{verdict_text}
 use Rattle.spd_text.specs.PacketText.{packet_text}
+use Rattle.cert_make.specs.Text.{certificate_lines}
+use Rattle.cert_make.specs.Trees.{made_nodes}
 use Rattle.pair_gap.specs.declared.gap.Gap.{Gap}
 use Rattle.pair_gap.specs.LeastGap.{least_gap_of}
 use Rattle.audit_frame.specs.Answer.{Answer, with_limit, with_policy}
@@ -49,9 +50,9 @@ gap_lines packet a b =
     ∷ ((codes "b " ++ verdict_text b) ++ codes "\n")
     ∷ []
 
--- That both agree.
-abbrev pub agreement : Answer AuditEnd
-agreement = record { ended = Ok AuditEnd.Agree; lines = (codes "agree" ++ codes "\n") ∷ [] }
+-- That both agree: the certificate of it that is made of them.
+abbrev pub agreement : List LineParts → List LineParts → Answer AuditEnd
+agreement a b = record { ended = Ok AuditEnd.Agree; lines = certificate_lines (made_nodes a b) }
 
 -- That they differ, and where.
 abbrev pub gap_answer : List LineParts → List LineParts → Gap → Answer AuditEnd
@@ -59,7 +60,7 @@ gap_answer a b gap = record { ended = Ok AuditEnd.Differ; lines = gap_lines gap.
 
 -- They agree where there is no gap.
 abbrev pub by_gap : List LineParts → List LineParts → Option Gap → Answer AuditEnd
-by_gap a b None = agreement
+by_gap a b None = agreement a b
 by_gap a b (Some gap) = gap_answer a b gap
 
 -- The answer by the lines of both policies: the least gap of A's outbound and B's inbound entries.

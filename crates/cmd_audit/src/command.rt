@@ -42,13 +42,14 @@ impl<'a> Audit<'a> {
         }
     }
 
-    /// Writes `agree` where B judges each packet that comes in as A does when it goes out (RFC 4301
-    /// section 5), and else `differ` with the least packet that is judged differently, in the order
-    /// of family, source, destination, protocol and fields, and both verdicts on it.
+    /// Writes a certificate where B judges each packet that comes in as A does when it goes out
+    /// (RFC 4301 section 5): `agree`, and the nodes of `cert_make::make`. Otherwise writes `differ`
+    /// with the least packet that is judged differently, in the order of family, source,
+    /// destination, protocol and fields, and both verdicts on it.
     ///
     /// A's policy is loaded and cut outbound before B's is loaded, which is cut inbound alone. Then
     /// it takes time by the number of A's entries and of the pairs that meet and are judged
-    /// differently, and memory for a tree of B's entries.
+    /// differently, and memory for a tree of B's entries; and where they agree what `make` takes.
     pub fn run<F: Files, O: Sink>(
         &self,
         alloc: Global,

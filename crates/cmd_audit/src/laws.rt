@@ -9,9 +9,10 @@ ghost use Rattle.cmd_audit.specs.declared.command.AuditEnd.{AuditEnd};
 ghost use Rattle.spd_line.specs.Agree.{Agree};
 ghost use Rattle.spd_line.specs.declared.line.LineParts.{LineParts};
 
-/// Where both policies tell their contents and the run came to its end, `agree` was written and the
-/// policies agree, or `differ` with their least gap: the least packet that they judge differently,
-/// and the verdict of the first line that selects it in each.
+/// Where both policies tell their contents and the run came to its end, a certificate that they
+/// agree was written, which is accepted, and they agree; or `differ` with their least gap: the
+/// least packet that they judge differently, and the verdict of the first line that selects it in
+/// each.
 pub fn the_least_gap_is_written()
     ensures { (told : List ℕ → Option (List ℕ)) (command : Audit) (policy_a policy_b : List ℕ)
         → (before now : Option (List ℕ)) (end : AuditEnd)
@@ -21,6 +22,7 @@ pub fn the_least_gap_is_written()
 {
     pair_gap::laws::the_least_gap_is_found();
     spd_cut::laws::entries_stand_for();
+    cert_make::laws::made_is_accepted();
 }
 
 /// The answer for two policies is that they agree exactly where they do.

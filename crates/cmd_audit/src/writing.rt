@@ -1,22 +1,26 @@
-ghost use Rattle.std.specs.Prelude.{◌≡◌, ◌+◌, ◌≤◌, length, IfErr, IfOk, IfSome, OnOk};
+ghost use Rattle.std.specs.Prelude.{◌≡◌, ◌+◌, ◌≤◌, length, IfErr, IfOk, IfSome, OnErr, OnOk};
 ghost use Rattle.audit_frame.specs.Ends.{WriteCauses, Writes};
+ghost use Rattle.cert_make.specs.Text.{nodes_text};
+ghost use Rattle.cert_make.specs.Trees.{made_nodes};
 ghost use Rattle.cmd_audit.specs.Audit.{agreement, by_gap, gap_answer, gap_lines, pair_answer};
 ghost use Rattle.cmd_audit.specs.Audit.{told_by};
 ghost use Rattle.cmd_audit.specs.inner.Places.{HasPlaces};
 ghost use Rattle.pair_gap.specs.LeastGap.{least_gap_of};
+ghost use Rattle.pair_io.specs.Gains.{Gains, GainsPrefix};
 ghost use Rattle.sel_box.specs.declared.packet.Direction.TheVariants.{Inbound, Outbound};
 ghost use Rattle.spd_cut.specs.Entries.{entries};
 
 use crate::AuditEnd;
 use crate::answer_lines::{Agreement, GapLines};
 use audit_frame::{NoMemory, WriteRefused, write_line, write_lines};
+use cert_make::{MakeFault, make};
 use pair_gap::{Gap, PeerEntries, least_gap};
 use pair_io::Sink;
 use spd_cut::Entry;
 use spd_line::{Answer, LineList, Verdict, name_of};
 use std::alloc::Global;
 
-// Writes that the policies agree, or their least gap.
+// Writes the certificate that the policies agree, or their least gap.
 pub fn write_answer<O: Sink>(
     alloc: Global,
     a: &LineList,
@@ -74,18 +78,49 @@ fn write_found<O: Sink>(
 {
     match gap {
         Some(gap) => write_gap(alloc, a, b, gap, out),
-        None => write_agreement(alloc, out),
+        None => write_agreement(alloc, a, b, out),
     }
 }
 
-// Writes that they agree.
-fn write_agreement<O: Sink>(alloc: Global, out: &mut O) -> Result<AuditEnd, WriteRefused>
-    ensures writes { Writes agreement (O.told out.old) (O.told out.new) result }
+// Writes that they agree, and the nodes of the certificate that shows it.
+fn write_agreement<O: Sink>(
+    alloc: Global,
+    a: &LineList,
+    b: &LineList,
+    out: &mut O,
+) -> Result<AuditEnd, WriteRefused>
+    requires few_a { length a.now ≤ 4096 }
+    requires few_b { length b.now ≤ 4096 }
+    ensures writes { Writes (agreement a.now b.now) (O.told out.old) (O.told out.new) result }
     ensures causes { IfErr result (WriteCauses (O.faults out.old) (O.faults out.new)) }
     ensures no_fault { OnOk result (O.faults out.new ≡ O.faults out.old) }
 {
     write_line(&Agreement, &mut Vec::new(alloc), out)?;
+    write_nodes(alloc, a, b, out)?;
     Ok(AuditEnd::Agree)
+}
+
+// Writes the nodes of the certificate.
+fn write_nodes<O: Sink>(
+    alloc: Global,
+    a: &LineList,
+    b: &LineList,
+    out: &mut O,
+) -> Result<(), WriteRefused>
+    requires few_a { length a.now ≤ 4096 }
+    requires few_b { length b.now ≤ 4096 }
+    ensures written { OnOk result (Gains (O.told out.old) (O.told out.new)
+        (nodes_text (made_nodes a.now b.now))) }
+    ensures prefix { OnErr result (GainsPrefix (O.told out.old) (O.told out.new)
+        (nodes_text (made_nodes a.now b.now))) }
+    ensures causes { IfErr result (WriteCauses (O.faults out.old) (O.faults out.new)) }
+    ensures no_fault { OnOk result (O.faults out.new ≡ O.faults out.old) }
+{
+    match make(alloc, a, b, out) {
+        Ok(()) => Ok(()),
+        Err(MakeFault::WriteFault) => Err(WriteRefused::WriteFault),
+        Err(MakeFault::NoMemory) => Err(WriteRefused::NoMemory),
+    }
 }
 
 // Writes the packet of a gap and both verdicts.

@@ -1,5 +1,5 @@
 -- The places of a gap's verdicts.
-use Rattle.std.specs.Prelude.{ℕ, ◌+◌, ◌≤◌, List, length}
+use Rattle.std.specs.Prelude.{◌+◌, ◌≤◌, List, length}
 use Rattle.pair_gap.specs.declared.gap.Gap.{Gap}
 use Rattle.spd_line.specs.declared.line.LineParts.{LineParts}
 

@@ -1,4 +1,4 @@
-use Rattle.std.proofs.Common.{◌≡◌, List, ap₂, sym, subst, ◌∙◌}
+use Rattle.std.proofs.Common.{List, ap₂, sym, subst, ◌∙◌}
 use Rattle.sel_box.specs.declared.packet.Direction.TheVariants.{Outbound, Inbound}
 use Rattle.spd_cut.specs.declared.entry.Entry.{Entry}
 use Rattle.spd_cut.specs.StandsFor.{StandsFor}
