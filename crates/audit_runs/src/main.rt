@@ -4,7 +4,9 @@
 #![tactic(auto)]
 
 use anyhow::Context;
-use pair_io::RealFiles;
+use pair_io::{Bytes, RealFiles};
+use spd_lanes::Shared;
+use std::alloc::Global;
 use std::str;
 
 mod asking;
@@ -18,17 +20,30 @@ fn main(rt: HostRuntime) -> anyhow::Result<()> {
     let alloc = rt.alloc();
     let mut real = RealFiles::new(alloc, &rt);
     let stored = pair_io::load(alloc, &mut real, "files", MOST_BYTES).ok();
-    let stored = stored.context("cannot read the files")?;
-    let stored = str::from_utf8(stored.as_slice())?;
+    let stored: Bytes = stored.context("cannot read the files")?;
     let mut kept = None;
     for line in rt.lines(alloc) {
-        let line = line?;
-        if let Some(packet) = line.strip_prefix("? ") {
-            print!(rt; "{line}\n{}\n", asking::asked(alloc, &mut kept, packet)?)?;
-        } else {
-            let told = running::ran(alloc, stored, line.as_str(), &mut kept)?;
-            print!(rt; "$ {line}\n{told}")?;
-        }
+        let told = told(alloc, stored.as_slice(), line?.as_str(), &mut kept)?;
+        print!(rt; "{told}")?;
     }
     Ok(())
+}
+
+// What is printed for a line of the input.
+fn told(
+    alloc: Global,
+    stored: &[u8],
+    line: &str,
+    kept: &mut Option<Shared>,
+) -> anyhow::Result<String> {
+    match line.strip_prefix("? ") {
+        Some(packet) => {
+            let answer = asking::asked(alloc, kept, packet)?;
+            Ok(format!(in alloc; "{line}\n{answer}\n")?)
+        }
+        None => {
+            let told = running::ran(alloc, str::from_utf8(stored)?, line, kept)?;
+            Ok(format!(in alloc; "$ {line}\n{told}")?)
+        }
+    }
 }

@@ -1,12 +1,45 @@
 use crate::filing::files_of;
-use pair_io::{MemFiles, MemSink, NoMemory, NumberList, Text, WordList};
+use pair_io::{FileList, MemFiles, MemSink, NoMemory, NumberList, Text, WordList};
 use spd_lanes::Shared;
 use std::alloc::Global;
 use std::str;
 
 // The most bytes that a run may write, and report.
 const OUT_ROOM: usize = 3000;
+
 const ERR_ROOM: usize = 120;
+
+// Where a run reads and writes.
+#[derive(Drop)]
+struct Stage {
+    files: MemFiles,
+    out: MemSink,
+    err: MemSink,
+}
+
+impl Stage {
+    // Over some files, with the failure that stands behind the words, where one does.
+    fn new(alloc: Global, files: FileList, failure: &str) -> anyhow::Result<Stage> {
+        let files = MemFiles::new(files, failing(alloc, failure, "read ")?);
+        let out = sink(alloc, OUT_ROOM, failure, "write ")?;
+        let err = sink(alloc, ERR_ROOM, failure, "report ")?;
+        Ok(Stage { files, out, err })
+    }
+
+    // Runs the program, and gives its status.
+    fn run(&mut self, alloc: Global, words: &WordList, kept: &mut Option<Shared>) -> u8 {
+        let Stage { files, out, err } = self;
+        let ended = audit_top::run(alloc, words, files, out, err, kept);
+        audit_top::status(&ended)
+    }
+
+    // What was written and reported, and a status.
+    fn told(&self, alloc: Global, status: u8) -> anyhow::Result<String> {
+        let printed = str::from_utf8(self.out.as_slice())?;
+        let reported = str::from_utf8(self.err.as_slice())?;
+        Ok(format!(in alloc; "{printed}{reported}= {status}\n")?)
+    }
+}
 
 // What a run wrote and reported, and its status. Behind its words a failure may stand, as
 // ` ! read 2` for its second read.
@@ -17,28 +50,15 @@ pub fn ran(
     kept: &mut Option<Shared>,
 ) -> anyhow::Result<String> {
     let (words, failure) = call.split_once(" ! ").unwrap_or((call, ""));
-    let files = files_of(alloc, stored)?;
-    let mut files = MemFiles::new(files, failing(alloc, failure, "read ")?);
-    let mut out = MemSink::new(alloc, OUT_ROOM, failing(alloc, failure, "write ")?)?;
-    let mut err = MemSink::new(alloc, ERR_ROOM, failing(alloc, failure, "report ")?)?;
     let words = words_of(alloc, words)?;
-    let status = status_of(alloc, &words, &mut files, &mut out, &mut err, kept);
-    let printed = str::from_utf8(out.as_slice())?;
-    let reported = str::from_utf8(err.as_slice())?;
-    Ok(format!(in alloc; "{printed}{reported}= {status}\n")?)
+    let mut stage = Stage::new(alloc, files_of(alloc, stored)?, failure)?;
+    let status = stage.run(alloc, &words, kept);
+    stage.told(alloc, status)
 }
 
-// Runs the program, and gives its status.
-fn status_of(
-    alloc: Global,
-    words: &WordList,
-    files: &mut MemFiles,
-    out: &mut MemSink,
-    err: &mut MemSink,
-    kept: &mut Option<Shared>,
-) -> u8 {
-    let ended = audit_top::run(alloc, words, files, out, err, kept);
-    audit_top::status(&ended)
+fn sink(alloc: Global, room: usize, failure: &str, kind: &str) -> anyhow::Result<MemSink> {
+    let failing = failing(alloc, failure, kind)?;
+    Ok(MemSink::new(alloc, room, failing)?)
 }
 
 // The words of a text, between single spaces; none of the empty text.
