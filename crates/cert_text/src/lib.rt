@@ -13,5 +13,3 @@ mod node;
 mod printing;
 mod reading;
 mod splitting;
-#[cfg(test)]
-mod tests;

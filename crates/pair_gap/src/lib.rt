@@ -13,5 +13,3 @@ mod pairs;
 mod peer;
 mod regions;
 mod runs;
-#[cfg(test)]
-mod tests;

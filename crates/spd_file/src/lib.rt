@@ -18,8 +18,6 @@ mod line;
 mod line_table;
 mod policy;
 mod table;
-#[cfg(test)]
-mod tests;
 mod value;
 mod why;
 mod word;

@@ -36,7 +36,5 @@ mod ports;
 mod product_list;
 mod ranges;
 mod select;
-#[cfg(test)]
-mod tests;
 mod verdict;
 mod width;

@@ -11,6 +11,7 @@ use crate::{Judgement, Line, LineParts, NoMemory};
 use sel_box::{AnyBox, Box4, Box6, Direction, Family, OfFamily, Ranges};
 use sel_region::{Axis, Field, Interval, Pair, Proto, Region};
 use std::alloc::Global;
+use std::mem::size_of;
 
 /// A box of a line, and how the line judges its points (RFC 4301 sections 4.4.1 and 5).
 #[derive(Clone, Copy, Debug, PartialEq, Eq)]
@@ -18,6 +19,8 @@ pub struct LineBox {
     pub region: AnyBox,
     pub judgement: Judgement,
 }
+
+const _: () = prove!(size_of::<LineBox>() <= 208);
 
 /// A list of boxes, each with a judgement.
 pub type BoxList = lists::List<LineBox>;

@@ -12,5 +12,3 @@ mod fault;
 pub mod laws;
 mod spd;
 mod table;
-#[cfg(test)]
-mod tests;

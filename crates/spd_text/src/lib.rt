@@ -12,5 +12,3 @@ mod judgement_text;
 mod packet_text;
 mod printed;
 mod range_text;
-#[cfg(test)]
-mod tests;

@@ -13,8 +13,6 @@ pub mod laws;
 mod line;
 mod reading;
 mod spaces;
-#[cfg(test)]
-mod tests;
 mod word;
 mod words;
 mod written;

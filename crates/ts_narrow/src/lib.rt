@@ -16,6 +16,4 @@ mod meets;
 mod narrowed;
 mod narrowing;
 mod searching;
-#[cfg(test)]
-mod tests;
 mod trying;

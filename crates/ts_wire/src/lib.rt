@@ -10,5 +10,3 @@ mod fault;
 pub mod laws;
 mod lines;
 mod proposal;
-#[cfg(test)]
-mod tests;
