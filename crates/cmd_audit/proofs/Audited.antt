@@ -26,7 +26,6 @@ use Rattle.cmd_audit.specs.Audit.{audit_answer, by_first, by_gap, by_second, pai
 use Rattle.cmd_audit.specs.Headline.{IsAudited}
 use Rattle.spd_file.specs.Policy.{policy_meaning}
 use Rattle.cmd_audit.proofs.Certificates.{text_of-certificate}
-use Rattle.cmd_audit.proofs.FewLines.{policy_meaning-few}
 
 -- What the laws of gaps and of entries give.
 pub record GapLaws : Type 0 where
@@ -42,30 +41,34 @@ CertificateLaw =
     (a b : List LineParts) → length a ≤ most_lines → length b ≤ most_lines → Agree a b →
     check_answer a b (certificate_text (made_nodes a b)) ≡ Ok Checked.Accepted
 
-by_gap-means : CertificateLaw → (policy_a policy_b : List ℕ) (a b : List LineParts) (found : Option Gap) (before now : Option (List ℕ))
+-- What the law of policy files gives.
+abbrev pub FewLaw : Type 0
+FewLaw = (bytes : List ℕ) (lines : List LineParts) → policy_meaning bytes ≡ Ok lines → length lines ≤ most_lines
+
+by_gap-means : CertificateLaw → FewLaw → (policy_a policy_b : List ℕ) (a b : List LineParts) (found : Option Gap) (before now : Option (List ℕ))
     (end : AuditEnd) → policy_meaning policy_a ≡ Ok a → policy_meaning policy_b ≡ Ok b → IfSome found (IsLeastGap a b) →
     IfNone found (Agree a b) → IsAnswer (by_gap a b found) before now (Ok end) → IsAudited policy_a policy_b before now end
-by_gap-means made policy_a policy_b a b None before now AuditEnd.Agree a_is b_is some none is = record {
+by_gap-means made few policy_a policy_b a b None before now AuditEnd.Agree a_is b_is some none is = record {
   a = a;
   b = b;
   a_is = a_is;
   b_is = b_is;
   agree = none;
   certificate = certificate_text (made_nodes a b);
-  accepted = made a b (policy_meaning-few policy_a a a_is) (policy_meaning-few policy_b b b_is) none;
+  accepted = made a b (few policy_a a a_is) (few policy_b b b_is) none;
   written = subst (Gains before now) (text_of-certificate (made_nodes a b)) is.all_lines;
 }
-by_gap-means made policy_a policy_b a b None before now AuditEnd.Differ a_is b_is some none is =
+by_gap-means made few policy_a policy_b a b None before now AuditEnd.Differ a_is b_is some none is =
     absurd (let no_way : ⊥ = cc (is.ended_is) in no_way)
-by_gap-means made policy_a policy_b a b (Some gap) before now AuditEnd.Differ a_is b_is some none is =
+by_gap-means made few policy_a policy_b a b (Some gap) before now AuditEnd.Differ a_is b_is some none is =
     record { a = a; b = b; a_is = a_is; b_is = b_is; gap = gap; least = some; written = is.all_lines }
-by_gap-means made policy_a policy_b a b (Some gap) before now AuditEnd.Agree a_is b_is some none is =
+by_gap-means made few policy_a policy_b a b (Some gap) before now AuditEnd.Agree a_is b_is some none is =
     absurd (let no_way : ⊥ = cc (is.ended_is) in no_way)
 
-pub audited : GapLaws → CertificateLaw → (told : List ℕ → Option (List ℕ)) (command : Audit) (policy_a policy_b : List ℕ) (before now : Option (List ℕ))
+pub audited : GapLaws → CertificateLaw → FewLaw → (told : List ℕ → Option (List ℕ)) (command : Audit) (policy_a policy_b : List ℕ) (before now : Option (List ℕ))
     (end : AuditEnd) → told command.policy_a.name ≡ Some policy_a → told command.policy_b.name ≡ Some policy_b →
     Ends (audit_answer told command) before now (Ok end) → IsAudited policy_a policy_b before now end
-audited laws made told command policy_a policy_b before now end tells_a tells_b ends =
+audited laws made few told command policy_a policy_b before now end tells_a tells_b ends =
     let first = Ends-lines told command.policy_a policy_a (by_first told command) before now end tells_a ends in
     let a = first.lines in
     let under_a = Ends-under_before command.policy_a.word command.limit Outbound a (with_policy told command.policy_b (by_second command a))
@@ -73,7 +76,7 @@ audited laws made told command policy_a policy_b before now end tells_a tells_b 
     let second = Ends-lines told command.policy_b policy_b (by_second command a) before now end tells_b under_a in
     let b = second.lines in
     let done = Ends-under command.policy_b.word command.limit Inbound b (pair_answer a b) before now end second.ends in
-    by_gap-means made policy_a policy_b a b (least_gap_of (entries Outbound a) (entries Inbound b)) before now end first.policy second.policy
+    by_gap-means made few policy_a policy_b a b (least_gap_of (entries Outbound a) (entries Inbound b)) before now end first.policy second.policy
     (laws.some a b (entries Outbound a) (entries Inbound b) (laws.stands Outbound a) (laws.stands Inbound b))
     (laws.none a b (entries Outbound a) (entries Inbound b) (laws.stands Outbound a) (laws.stands Inbound b))
     done

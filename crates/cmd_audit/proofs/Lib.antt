@@ -1,5 +1,4 @@
 pub mod Audited
 pub mod Certificates
-pub mod FewLines
 pub mod Stages
 pub mod Told

@@ -23,6 +23,7 @@ pub fn the_least_gap_is_written()
     pair_gap::laws::the_least_gap_is_found();
     spd_cut::laws::entries_stand_for();
     cert_make::laws::made_is_accepted();
+    spd_file::laws::policies_have_few_lines();
 }
 
 /// The answer for two policies is that they agree exactly where they do.

@@ -1,4 +1,5 @@
 mod Each
+mod FewLines
 mod Lines
 mod Names
 mod Parses

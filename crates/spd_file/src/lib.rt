@@ -14,6 +14,7 @@ mod fault_text;
 mod flags;
 mod items;
 mod key;
+pub mod laws;
 mod line;
 mod line_table;
 mod policy;

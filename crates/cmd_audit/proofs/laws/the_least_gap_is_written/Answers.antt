@@ -7,4 +7,4 @@ returns c =
       stands = c.entries_stand_for.ensures;
       some = c.the_least_gap_is_found.ensures.some;
       none = c.the_least_gap_is_found.ensures.none;
-    }) c.made_is_accepted.ensures
+    }) c.made_is_accepted.ensures c.policies_have_few_lines.ensures
