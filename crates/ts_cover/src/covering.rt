@@ -7,7 +7,6 @@ ghost use Rattle.ts_cover.specs.RealParts as parts;
 ghost use Rattle.ts_cover.specs.Writing as writing;
 
 use crate::pairing::pairs;
-use crate::remains::Remains;
 use crate::sides::can_write;
 use crate::{NoMemory, Ts};
 use sel_box::{AnyBox, OPAQUE_FIELD, Region, RegionList, has_real};
@@ -95,13 +94,6 @@ impl Cover {
             → writing.can_write (writing.written_part self.now region.now) ≡ true }
     {
         written_part(&self.boxes, region)
-    }
-
-    /// What is left of the boxes, of which nothing is taken out yet. Takes memory for a copy.
-    pub fn remains(&self, alloc: Global) -> Result<Remains, NoMemory>
-        ensures { IfOk result (λ remains. remains ≡ self.now) }
-    {
-        Remains::new(alloc, self.boxes.as_slice())
     }
 }
 

@@ -4,7 +4,6 @@
 pub use covering::Cover;
 pub use cutting::cut_selectors;
 pub use pairing::first_pair;
-pub use remains::Remains;
 pub use sides::{can_write, has_number, local_side, remote_side};
 pub use ts_span::{NoMemory, Ts, TsList, TsSpan};
 
@@ -12,5 +11,4 @@ mod covering;
 mod cutting;
 pub mod laws;
 mod pairing;
-mod remains;
 mod sides;
