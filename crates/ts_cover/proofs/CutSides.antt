@@ -1,9 +1,11 @@
 -- Selectors cut to the sides of a box.
-use Rattle.std.proofs.Common.{◌≡◌, ℕ, ◌*◌, ◌≤◌, Bool, true, false, not, ◌&&◌, ◌||◌, cond, eqb, leb, List, [], ◌∷◌, length, Option, Some, None}
+use Rattle.std.proofs.Common.{◌≡◌, ℕ, ◌*◌, ◌≤◌, Bool, true, false, not, ◌&&◌, ◌||◌, cond, eqb, leb, List, [], ◌∷◌}
+use Rattle.std.proofs.Common.{length, Option, Some, None}
 use Rattle.std.proofs.Common.{◌⊎◌, inl, inr, refl, sym, subst, ap, ap₂, ◌∙◌, arith}
 use Rattle.std.specs.List.{flat_map, list_all}
 use Rattle.std.specs.Option.{option_and_then, option_map}
-use Rattle.std.proofs.lemmas.Bool.{and_from, and_parts, cases_eq, eq-eqb, eqb-true, false≢true, false_from_ne_true, le-leb, leb-true, or_cases, or_left, or_right}
+use Rattle.std.proofs.lemmas.Bool.{and_from, and_parts, cases_eq, eq-eqb, eqb-true, false≢true, false_from_ne_true}
+use Rattle.std.proofs.lemmas.Bool.{le-leb, leb-true, or_cases, or_left, or_right}
 use Rattle.std.proofs.lemmas.List.{length-append}
 use Rattle.std.proofs.lemmas.List.Folds.{list_all-append, list_any-append}
 use Rattle.std.proofs.lemmas.Option.{cond_some, none-some, same_Some}
@@ -15,7 +17,8 @@ use Rattle.sel_box.specs.laws.BoxLaws.{equal_from_same}
 use Rattle.sel_text.specs.declared.family.Family.{Family}
 use Rattle.sel_text.specs.Family.{last_address, same_family}
 use Rattle.ts_payload.specs.declared.selector.Ts.{Ts}
-use Rattle.ts_payload.specs.Selector.{AreSelectors, fits_bytes, has_all_ports, has_opaque_ports, is_selector, keeps_rules, ports_suit_protocol}
+use Rattle.ts_payload.specs.Selector.{AreSelectors, fits_bytes, has_all_ports, has_opaque_ports, is_selector}
+use Rattle.ts_payload.specs.Selector.{keeps_rules, ports_suit_protocol}
 use Rattle.ts_payload.specs.Selector.{addresses_in_order, ports_in_order}
 use Rattle.ts_span.specs.declared.spanning.TsSpan.{TsSpan}
 use Rattle.ts_span.specs.Span.{fields_of, is_range, is_span, lies_in, selects, span_has, span_of, span_with, types_between}
@@ -87,8 +90,10 @@ span_meet-points a b f address protocol field = families (same_family a.family b
     families true e false g =
         sym (false_from_ne_true (span_has a f address protocol field && span_has b f address protocol field) (λ h.
         let p = and_parts (span_has a f address protocol field) (span_has b f address protocol field) h in
-        let a1 = and_parts (same_family a.family f && lies_in a.addresses address) (lies_in a.protocols protocol && lies_in a.fields field) p.0 in
-        let b1 = and_parts (same_family b.family f && lies_in b.addresses address) (lies_in b.protocols protocol && lies_in b.fields field) p.1 in
+        let a1 = and_parts (same_family a.family f && lies_in a.addresses address)
+        (lies_in a.protocols protocol && lies_in a.fields field) p.0 in
+        let b1 = and_parts (same_family b.family f && lies_in b.addresses address)
+        (lies_in b.protocols protocol && lies_in b.fields field) p.1 in
         let a2 = and_parts (lies_in a.protocols protocol) (lies_in a.fields field) a1.1 in
         let b2 = and_parts (lies_in b.protocols protocol) (lies_in b.fields field) b1.1 in
         false≢true (sym g ∙ and_from (in_order (meet_bounds a.addresses b.addresses)) _
@@ -130,7 +135,8 @@ writes span h = elim (or_cases (has_number span) (has_all_protocols span) h) [
       )
 ]
 
-number_written : (span : TsSpan) → span.protocols.0 ≡ span.protocols.1 → 1 ≤ span.protocols.0 → span.protocols.0 ≤ 255 → is_writable span ≡ true
+number_written : (span : TsSpan) → span.protocols.0 ≡ span.protocols.1 → 1 ≤ span.protocols.0 → span.protocols.0 ≤ 255 →
+    is_writable span ≡ true
 number_written span one from to =
     or_left (has_number span) (has_all_protocols span)
     (and_from _ _ (eq-eqb span.protocols.0 span.protocols.1 one)
@@ -150,7 +156,8 @@ all_written span none whole top low =
 met_writes : (a b : TsSpan) → Writes a → Writes b → (meet_bounds a.protocols b.protocols).0 ≤ (meet_bounds a.protocols b.protocols).1 →
     is_writable (met a b) ≡ true
 met_writes a b (inl (one, from, to)) _ order = number_written (met a b) (omega arith) (omega arith) (omega arith)
-met_writes a b (inr (none, whole, top, low)) (inl (one, from, to)) order = number_written (met a b) (omega arith) (omega arith) (omega arith)
+met_writes a b (inr (none, whole, top, low)) (inl (one, from, to)) order =
+    number_written (met a b) (omega arith) (omega arith) (omega arith)
 met_writes a b (inr (none, whole, top, low)) (inr (none', whole', top', low')) order =
     all_written (met a b) (omega arith) (omega arith) (omega arith) (elim low [
       | inr e ↦ inr (elim low' [ inl g ↦ omega arith | inr g ↦ omega arith ])
@@ -219,7 +226,8 @@ part_is s fields side part h e writable meet =
     let on = on_axes a (span_in_order s fields e h) in
     subst IsPart found.1 (record {
       in_order = and_from _ _ (met_range (last_address a.family) a.addresses side.addresses on.addresses one.0)
-          (and_from _ _ (met_range 256 a.protocols side.protocols on.protocols two.0) (met_range 65536 a.fields side.fields on.fields two.1));
+          (and_from _ _ (met_range 256 a.protocols side.protocols on.protocols two.0)
+          (met_range 65536 a.fields side.fields on.fields two.1));
       writable = met_writes a side (selector_writes s fields h e) (writes side writable)
           (leb-true (meet_bounds a.protocols side.protocols).0 (meet_bounds a.protocols side.protocols).1 two.0);
     })
@@ -262,17 +270,20 @@ Keeps f address protocol field =
 
 cut_selector-selects : (side : TsSpan) (s : Ts) (f : Family) (address protocol field : ℕ) → Keeps f address protocol field →
     is_selector s ≡ true → is_writable side ≡ true →
-    some_selects (cut_selector side s) f address protocol field ≡ (selects s f address protocol field && span_has side f address protocol field)
+    some_selects (cut_selector side s) f address protocol field
+    ≡ (selects s f address protocol field && span_has side f address protocol field)
 cut_selector-selects side s f address protocol field keeps h writable =
     go (part_of side s) refl ∙ part_points side s f address protocol field
   where
-    go : (o : Option TsSpan) → part_of side s ≡ o → some_selects (spelled_some o) f address protocol field ≡ some_span o f address protocol field
+    go : (o : Option TsSpan) → part_of side s ≡ o →
+        some_selects (spelled_some o) f address protocol field ≡ some_span o f address protocol field
     go None e = refl
     go (Some part) e = let p = part_of-is side s part h writable e in keeps part p.0 p.1
 
 cut_selectors-select : (side : TsSpan) (list : List Ts) (f : Family) (address protocol field : ℕ) → Keeps f address protocol field →
     AreSelectors list → is_writable side ≡ true →
-    some_selects (cut_selectors side list) f address protocol field ≡ (some_selects list f address protocol field && span_has side f address protocol field)
+    some_selects (cut_selectors side list) f address protocol field
+    ≡ (some_selects list f address protocol field && span_has side f address protocol field)
 unfolding cut_selectors
 cut_selectors-select side [] f address protocol field keeps h writable = refl
 cut_selectors-select side (s ∷ list) f address protocol field keeps h writable =
@@ -280,7 +291,8 @@ cut_selectors-select side (s ∷ list) f address protocol field keeps h writable
     list_any-append (λ selector. selects selector f address protocol field) (cut_selector side s) (flat_map (cut_selector side) list)
     ∙ ap₂ (λ (a b : Bool). a || b) (cut_selector-selects side s f address protocol field keeps parts.0 writable)
     (cut_selectors-select side list f address protocol field keeps parts.1 writable)
-    ∙ either_first (selects s f address protocol field) (some_selects list f address protocol field) (span_has side f address protocol field)
+    ∙ either_first (selects s f address protocol field) (some_selects list f address protocol field)
+    (span_has side f address protocol field)
 
 -- ---- both sides of a box
 
@@ -289,7 +301,8 @@ both_same true = refl
 both_same false = refl
 
 sides-points : (region : AnyBox) (x : PointFields) →
-    (span_has (remote_side region) x.family x.remote x.protocol x.remote_field && span_has (local_side region) x.family x.local x.protocol x.local_field)
+    (span_has (remote_side region) x.family x.remote x.protocol x.remote_field
+    && span_has (local_side region) x.family x.local x.protocol x.local_field)
     ≡ box_has region x
 sides-points region x =
     let side : AxisName → ℕ → Bool = λ axis n. lies_in (ends_of (range_at axis region)) n in
@@ -310,8 +323,10 @@ crossed true false false l = refl
 crossed false r b l = refl
 
 -- Where both sides of the box can be written, the cut selectors cover the real points that the proposal covers and the box has.
-pub cut_selectors-cover : (region : AnyBox) (tsi tsr : List Ts) (x : PointFields) → AreSelectors tsi → AreSelectors tsr → can_write region ≡ true →
-    IsReal x → covered (cut_selectors (remote_side region) tsi) (cut_selectors (local_side region) tsr) x ≡ (covered tsi tsr x && box_has region x)
+pub cut_selectors-cover : (region : AnyBox) (tsi tsr : List Ts) (x : PointFields) → AreSelectors tsi → AreSelectors tsr →
+    can_write region ≡ true → IsReal x →
+    covered (cut_selectors (remote_side region) tsi) (cut_selectors (local_side region) tsr) x
+    ≡ (covered tsi tsr x && box_has region x)
 cut_selectors-cover region tsi tsr x hi hr writable real =
     let sides = and_parts (is_writable (local_side region)) (is_writable (remote_side region)) writable in
     ap₂ (λ (a b : Bool). a && b)
@@ -335,7 +350,8 @@ cut_selector-right side s h writable = go (part_of side s) refl
     go None e = (refl, omega arith)
     go (Some part) e = let p = part_of-is side s part h writable e in (spelled_selectors part p.0 p.1, spelled_few part p.0 p.1)
 
-pub cut_selectors-right : (side : TsSpan) (list : List Ts) → AreSelectors list → is_writable side ≡ true → AreSelectors (cut_selectors side list)
+pub cut_selectors-right : (side : TsSpan) (list : List Ts) → AreSelectors list → is_writable side ≡ true →
+    AreSelectors (cut_selectors side list)
 unfolding cut_selectors
 cut_selectors-right side [] h writable = refl
 cut_selectors-right side (s ∷ list) h writable =

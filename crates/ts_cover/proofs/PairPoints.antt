@@ -22,7 +22,8 @@ use Rattle.sel_text.specs.Family.{last_address, same_family}
 use Rattle.ts_payload.specs.declared.selector.Ts.{Ts}
 use Rattle.ts_payload.specs.Selector.{has_all_ports, has_opaque_ports, is_selector}
 use Rattle.ts_span.specs.declared.spanning.TsSpan.{TsSpan}
-use Rattle.ts_span.specs.Span.{fields_of, is_span, lies_in, selects, selects_field, selects_protocol, span_has, span_of, span_with, types_between}
+use Rattle.ts_span.specs.Span.{fields_of, is_span, lies_in, selects, selects_field, selects_protocol, span_has, span_of}
+use Rattle.ts_span.specs.Span.{span_with, types_between}
 use Rattle.ts_span.specs.Spelling.{some_selects}
 use Rattle.ts_span.proofs.Spans.{lies, lies_in-one, lies_in-types, lies_in-whole, protocols_selected, same_test, span_in_order}
 use Rattle.ts_cover.specs.Covered.{covered}
@@ -67,12 +68,16 @@ span_points s family address protocol field =
     go : (o : Option (ℕ × ℕ)) → TellsFields (selects_field s) o →
         some_span (option_map (span_with s) o) family address protocol field ≡ selects s family address protocol field
     go None none =
-        sym (ap (λ (b : Bool). (same_family s.family family && lies_in (s.start, s.«end») address) && (selects_protocol s protocol && b)) (none field)
-        ∙ ap (λ (b : Bool). (same_family s.family family && lies_in (s.start, s.«end») address) && b) (and-false (selects_protocol s protocol))
+        sym (ap (λ (b : Bool). (same_family s.family family && lies_in (s.start, s.«end») address)
+        && (selects_protocol s protocol && b)) (none field)
+        ∙ ap (λ (b : Bool). (same_family s.family family && lies_in (s.start, s.«end») address) && b)
+        (and-false (selects_protocol s protocol))
         ∙ and-false (same_family s.family family && lies_in (s.start, s.«end») address))
     go (Some range) same =
-        ap (λ (b : Bool). (same_family s.family family && lies_in (s.start, s.«end») address) && (b && lies_in range field)) (protocols_selected s protocol)
-        ∙ ap (λ (b : Bool). (same_family s.family family && lies_in (s.start, s.«end») address) && (selects_protocol s protocol && b)) (same field)
+        ap (λ (b : Bool). (same_family s.family family && lies_in (s.start, s.«end») address) && (b && lies_in range field))
+        (protocols_selected s protocol)
+        ∙ ap (λ (b : Bool). (same_family s.family family && lies_in (s.start, s.«end») address)
+        && (selects_protocol s protocol && b)) (same field)
 
 -- ---- a box by its bounds
 
@@ -95,7 +100,8 @@ from_ranges Six (Some ranges) x = refl
 
 -- The box of bounds that don't pass their axes has the points whose values each lie in theirs.
 pub box_points : (f : Family) (local remote protocol local_field remote_field : ℕ × ℕ) (x : PointFields) →
-    local.1 ≤ last_address f → remote.1 ≤ last_address f → protocol.1 ≤ opaque_protocol → local_field.1 ≤ opaque_field → remote_field.1 ≤ opaque_field →
+    local.1 ≤ last_address f → remote.1 ≤ last_address f → protocol.1 ≤ opaque_protocol → local_field.1 ≤ opaque_field →
+    remote_field.1 ≤ opaque_field →
     some_has box_has (box_of f (local ∷ remote ∷ protocol ∷ local_field ∷ remote_field ∷ [])) x
     ≡ (same_family f x.family
     && (lies_in local x.local && (lies_in remote x.remote && (lies_in protocol x.protocol
@@ -180,12 +186,15 @@ span_box-points a b x ha hb = go (same_family a.family b.family) refl
         ∙ ap (λ (v : Bool). same_family b.family x.family
         && (lies_in b.addresses x.local && (lies_in a.addresses x.remote && (v
         && (lies_in b.fields x.local_field && lies_in a.fields x.remote_field))))) (common_lies a.protocols b.protocols x.protocol)
-        ∙ in_two (same_family b.family x.family) (lies_in a.addresses x.remote) (lies_in b.addresses x.local) (lies_in a.protocols x.protocol)
+        ∙ in_two (same_family b.family x.family) (lies_in a.addresses x.remote) (lies_in b.addresses x.local)
+        (lies_in a.protocols x.protocol)
         (lies_in b.protocols x.protocol) (lies_in a.fields x.remote_field) (lies_in b.fields x.local_field)
-        ∙ ap (λ (f : Family). ((same_family f x.family && lies_in a.addresses x.remote) && (lies_in a.protocols x.protocol && lies_in a.fields x.remote_field))
+        ∙ ap (λ (f : Family). ((same_family f x.family && lies_in a.addresses x.remote)
+        && (lies_in a.protocols x.protocol && lies_in a.fields x.remote_field))
         && span_has b x.family x.local x.protocol x.local_field) (sym same)
     go false e =
-        sym (two_families a.family b.family x.family (lies_in a.addresses x.remote) (lies_in a.protocols x.protocol && lies_in a.fields x.remote_field)
+        sym (two_families a.family b.family x.family (lies_in a.addresses x.remote)
+        (lies_in a.protocols x.protocol && lies_in a.fields x.remote_field)
         (lies_in b.addresses x.local) (lies_in b.protocols x.protocol && lies_in b.fields x.local_field) e)
 
 -- ---- pairs of selectors
@@ -202,9 +211,11 @@ pub pair_box-points : (s t : Ts) (x : PointFields) → is_selector s ≡ true �
     ≡ (selects s x.family x.remote x.protocol x.remote_field && selects t x.family x.local x.protocol x.local_field)
 pair_box-points s t x hs ht =
     go (span_of s) (span_of t) (span_of-in_order s hs) (span_of-in_order t ht)
-    ∙ ap₂ (λ (a b : Bool). a && b) (span_points s x.family x.remote x.protocol x.remote_field) (span_points t x.family x.local x.protocol x.local_field)
+    ∙ ap₂ (λ (a b : Bool). a && b) (span_points s x.family x.remote x.protocol x.remote_field)
+    (span_points t x.family x.local x.protocol x.local_field)
   where
-    go : (a b : Option TsSpan) → MatchOption a (Unit {0}) (λ span. is_span span ≡ true) → MatchOption b (Unit {0}) (λ span. is_span span ≡ true) →
+    go : (a b : Option TsSpan) → MatchOption a (Unit {0}) (λ span. is_span span ≡ true) →
+        MatchOption b (Unit {0}) (λ span. is_span span ≡ true) →
         some_has box_has (both_spans a b) x
         ≡ (some_span a x.family x.remote x.protocol x.remote_field && some_span b x.family x.local x.protocol x.local_field)
     go (Some a) (Some b) ha hb = span_box-points a b x ha hb

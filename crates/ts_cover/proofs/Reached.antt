@@ -42,7 +42,11 @@ some_real (b ∷ boxes) h =
           record { point = found.0; real = found.2; inside = or_left (box_has b found.0) (boxes_have boxes found.0) found.1 }
       | inr later ↦
           let found = some_real boxes later in
-          record { point = found.point; real = found.real; inside = or_right (box_has b found.point) (boxes_have boxes found.point) found.inside }
+          record {
+            point = found.point;
+            real = found.real;
+            inside = or_right (box_has b found.point) (boxes_have boxes found.point) found.inside;
+          }
     ]
 
 pub some_real-from : (boxes : List AnyBox) (x : PointFields) → IsReal x → boxes_have boxes x ≡ true → list_any has_real_point boxes ≡ true
@@ -102,7 +106,8 @@ reaches-some (b ∷ boxes) region h =
           }
     ]
 
-pub reaches-at : (boxes : List AnyBox) (region : AnyBox) (x : PointFields) → IsReal x → box_has region x ≡ true → boxes_have boxes x ≡ true →
+pub reaches-at : (boxes : List AnyBox) (region : AnyBox) (x : PointFields) → IsReal x → box_has region x ≡ true →
+    boxes_have boxes x ≡ true →
     reaches boxes region ≡ true
 unfolding reaches
 reaches-at [] region x real inside h = cc
@@ -143,14 +148,16 @@ in_middle true false c d e ha hb hd he = cc
 in_middle true true c false e ha hb hd he = cc
 in_middle true true c true false ha hb hd he = cc
 
-pub of_protocols-points : (protocols : ℕ × ℕ) (region : AnyBox) (x : PointFields) → protocols.1 ≤ opaque_protocol → IsReal x →
+-- A point on its axes is in what a box has of some protocols where the box has it and its protocol is one of them,
+pub of_protocols-on_axes : (protocols : ℕ × ℕ) (region : AnyBox) (x : PointFields) → protocols.1 ≤ opaque_protocol → is_point x ≡ true →
     some_has box_has (of_protocols protocols region) x ≡ (box_has region x && lies_in protocols x.protocol)
-of_protocols-points protocols region x fits real =
+of_protocols-on_axes protocols region x fits point =
     met_with region (box_of (family_of region) (
     (0, last_address (family_of region)) ∷ (0, last_address (family_of region)) ∷ protocols ∷ (0, opaque_field) ∷ (0, opaque_field) ∷ []
     )) x
     ∙ ap (λ (b : Bool). box_has region x && b)
-    (box_points (family_of region) (0, last_address (family_of region)) (0, last_address (family_of region)) protocols (0, opaque_field) (0, opaque_field) x
+    (box_points (family_of region) (0, last_address (family_of region)) (0, last_address (family_of region)) protocols
+    (0, opaque_field) (0, opaque_field) x
     (omega arith) (omega arith) fits (omega arith) (omega arith))
     ∙ go (box_has region x) refl
   where
@@ -161,7 +168,7 @@ of_protocols-points protocols region x fits real =
         ≡ (here && lies_in protocols x.protocol)
     go false e = refl
     go true e =
-        let on = on_axes x (is_point-from_real x real) in
+        let on = on_axes x point in
         let same = (and_parts _ _ e).0 in
         let family = equal_from_same (family_of region) x.family same in
         ap₂ (λ (a b : Bool). a && b) same
@@ -174,6 +181,11 @@ of_protocols-points protocols region x fits real =
         (lies_below (last_address x.family) x.local on.local) (lies_below (last_address x.family) x.remote on.remote)
         (lies_below opaque_field x.local_field on.local_field) (lies_below opaque_field x.remote_field on.remote_field)))
 
+-- as each real point is.
+pub of_protocols-points : (protocols : ℕ × ℕ) (region : AnyBox) (x : PointFields) → protocols.1 ≤ opaque_protocol → IsReal x →
+    some_has box_has (of_protocols protocols region) x ≡ (box_has region x && lies_in protocols x.protocol)
+of_protocols-points protocols region x fits real = of_protocols-on_axes protocols region x fits (is_point-from_real x real)
+
 -- ---- a box reaches some boxes by a sayable point
 
 pub says-some : (boxes : List AnyBox) (region : AnyBox) → says boxes region ≡ true → Says boxes region
@@ -185,7 +197,8 @@ says-some boxes region h = go (of_protocols (1, 255) region) (λ x real. of_prot
     go None same h = cc
     go (Some part) same h =
         let found = reaches-some boxes part h in
-        let parts = and_parts (box_has region found.point) (lies_in (1, 255) found.point.protocol) (sym (same found.point found.real) ∙ found.inside) in
+        let parts = and_parts (box_has region found.point) (lies_in (1, 255) found.point.protocol)
+        (sym (same found.point found.real) ∙ found.inside) in
         record { point = found.point; real = found.real; inside = parts.0; reached = found.reached; sayable = parts.1 }
 
 pub says-from : (boxes : List AnyBox) (region : AnyBox) → Says boxes region → says boxes region ≡ true
@@ -248,11 +261,13 @@ pub leaves-from : (boxes others : List AnyBox) → Leaves boxes others → leave
 unfolding leaves
 leaves-from boxes others l =
     some_real-from (cut_all box_minus boxes others) l.point l.real
-    (cut_all-points boxes others l.point ∙ and_from (boxes_have boxes l.point) (not (boxes_have others l.point)) l.inside (ap not l.outside))
+    (cut_all-points boxes others l.point ∙ and_from (boxes_have boxes l.point) (not (boxes_have others l.point)) l.inside
+    (ap not l.outside))
 
 -- ---- the answers of the tests
 
-pub reached : (result : Bool) (boxes : List AnyBox) (region : AnyBox) → result ≡ reaches boxes region → (result ≡ true) ↔ Reaches boxes region
+pub reached : (result : Bool) (boxes : List AnyBox) (region : AnyBox) → result ≡ reaches boxes region →
+    (result ≡ true) ↔ Reaches boxes region
 reached result boxes region e = (λ h. reaches-some boxes region (sym e ∙ h), λ r. e ∙ reaches-from boxes region r)
 
 pub said : (result : Bool) (boxes : List AnyBox) (region : AnyBox) → result ≡ says boxes region → (result ≡ true) ↔ Says boxes region

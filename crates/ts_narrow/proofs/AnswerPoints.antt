@@ -1,9 +1,8 @@
 -- What is true of the answer, by points.
-use Rattle.std.proofs.Common.{◌≡◌, ℕ, ◌+◌, ◌*◌, ◌≤◌, Bool, true, false, not, ◌&&◌, ◌||◌, ◌↔◌, cond, List, [], ◌∷◌, length, take, Option, Some, None, Result, Ok, Err, refl, sym, subst, ap, ◌∙◌, arith}
-use Rattle.std.proofs.Common.{inl, inr}
-use Rattle.std.specs.Prelude.{IfOk}
-use Rattle.std.specs.List.{find, list_all, list_any}
-use Rattle.std.proofs.lemmas.Bool.{and_from, and_left, and_parts, and_right, both_ways, cases_Bool, false≢true, false_from_ne_true, or_cases, or_left, or_right}
+use Rattle.std.proofs.Common.{◌≡◌, ℕ, Bool, true, false, not, cond, List, [], ◌∷◌, take, Option, Some, None}
+use Rattle.std.proofs.Common.{inl, inr, refl, sym, subst, ap, ◌∙◌}
+use Rattle.std.specs.List.{find, list_any}
+use Rattle.std.proofs.lemmas.Bool.{and_from, and_parts, and_right, false≢true, false_from_ne_true, or_cases, or_left, or_right}
 use Rattle.std.proofs.lemmas.Option.{none-some}
 use Rattle.sel_box.specs.declared.any_box.AnyBox.{AnyBox}
 use Rattle.sel_box.specs.BoxRegion.{box_minus}
@@ -13,27 +12,25 @@ use Rattle.sel_box.specs.laws.BoxLaws.{box_laws}
 use Rattle.spd_cut.specs.declared.entry.Entry.{Entry}
 use Rattle.spd_line.specs.declared.line.LineParts.{LineParts}
 use Rattle.ts_payload.specs.declared.selector.Ts.{Ts}
-use Rattle.ts_payload.specs.Selector.{AreSelectors, is_selector}
+use Rattle.ts_payload.specs.Selector.{AreSelectors}
 use Rattle.ts_cover.specs.Covered.{covered, is_sayable}
 use Rattle.ts_cover.specs.Pairs.{boxes_have, first_pair, pairs}
-use Rattle.ts_cover.specs.RealParts.{leaves, reaches, says}
-use Rattle.ts_cover.specs.Writing.{can_write, local_side, remote_side}
-use Rattle.ts_cover.proofs.CutSides.{cut_selectors-few, cut_selectors-right}
+use Rattle.ts_cover.specs.RealParts.{leaves, reaches}
 use Rattle.ts_cover.proofs.PairPoints.{pairs-points}
 use Rattle.ts_cover.proofs.Reached.{reaches-at, reaches-some, says-from, says-some}
-use Rattle.ts_span.specs.Spelling.{is_writable}
 use Rattle.ts_narrow.specs.declared.choice.Choice.{Choice}
-use Rattle.ts_narrow.specs.declared.choice.Form.{Form}
 use Rattle.ts_narrow.specs.declared.meets.Meet.{Meet}
 use Rattle.ts_narrow.specs.declared.narrowed.Narrowed.{Narrowed}
 use Rattle.ts_narrow.specs.declared.narrowed.Narrowed.TheVariants.{Pair, Unacceptable}
 use Rattle.ts_narrow.specs.Allowed.{StandForBoth, allowed}
-use Rattle.ts_narrow.specs.Answered.{AllAllowed, CoversSome, GivesWhole, HasSelectors, IsRightAnswer, IsWithin, KeepsFirst, RefusesRightly}
-use Rattle.ts_narrow.specs.Answered.{SomeAcceptable, SomeFirst, SomeLeft, TellsOfLeft}
+use Rattle.ts_narrow.specs.Answered.{AllAllowed, CoversSome, GivesWhole, IsRightAnswer, IsWithin, KeepsFirst, RefusesRightly}
+use Rattle.ts_narrow.specs.Answered.{SomeAcceptable, SomeFirst, TellsOfLeft}
 use Rattle.ts_narrow.specs.Meets.{meets, regions_of}
-use Rattle.ts_narrow.specs.Narrowing.{answer_of, by_meets, by_said, choice, misses, narrowing, tsi_of, tsr_of}
-use Rattle.ts_narrow.proofs.Chosen.{IsRight, allowed-kept, choice-first, choice-right, choice-some, choice-writable, first-covered, kept-allowed, listed-allowed}
-use Rattle.ts_narrow.proofs.Found.{IsListed, find-listed, find-passes, find-some, point-passes}
+use Rattle.ts_narrow.specs.Narrowing.{answer_of, by_meets, by_said, choice, misses, narrowing}
+use Rattle.ts_narrow.proofs.Chosen.{IsRight, choice-first, choice-right, choice-some}
+use Rattle.ts_narrow.proofs.FirstPair.{first-covered}
+use Rattle.ts_narrow.proofs.Found.{find-listed, find-passes, find-some, point-passes, says_in}
+use Rattle.ts_narrow.proofs.Kept.{allowed-kept, kept-allowed, listed-allowed}
 use Rattle.ts_narrow.proofs.MeetPoints.{allowed-one, allowed-real, meets-allowed}
 
 -- ---- a meet outside a region
@@ -50,10 +47,20 @@ pieces-some cover (b ∷ pieces) h =
     elim (or_cases (reaches cover b) (list_any (reaches cover) pieces) h) [
       | inl here ↦
           let r = reaches-some cover b here in
-          record { point = r.point; real = r.real; inside = or_left (box_has b r.point) (boxes_have pieces r.point) r.inside; reached = r.reached }
+          record {
+            point = r.point;
+            real = r.real;
+            inside = or_left (box_has b r.point) (boxes_have pieces r.point) r.inside;
+            reached = r.reached;
+          }
       | inr later ↦
           let o = pieces-some cover pieces later in
-          record { point = o.point; real = o.real; inside = or_right (box_has b o.point) (boxes_have pieces o.point) o.inside; reached = o.reached }
+          record {
+            point = o.point;
+            real = o.real;
+            inside = or_right (box_has b o.point) (boxes_have pieces o.point) o.inside;
+            reached = o.reached;
+          }
     ]
 
 pieces-at : (cover pieces : List AnyBox) (x : PointFields) → IsReal x → boxes_have pieces x ≡ true → boxes_have cover x ≡ true →
@@ -87,27 +94,27 @@ module _ (lines : List LineParts) (list : List Meet)
       is_covered : covered tsi tsr point ≡ true
       can_be_said : is_sayable point ≡ true
 
-    said-at : (meet : Meet) → find (λ (meet : Meet). says (pairs tsi tsr) meet.region) list ≡ Some meet → SaidAt meet.link
+    said-at : (meet : Meet) → find (says_in (pairs tsi tsr)) list ≡ Some meet → SaidAt meet.link
     said-at meet e =
-        let s = says-some (pairs tsi tsr) meet.region (find-passes (λ (meet : Meet). says (pairs tsi tsr) meet.region) list meet e) in
+        let s = says-some (pairs tsi tsr) meet.region (find-passes (says_in (pairs tsi tsr)) list meet e) in
         record {
           point = s.point;
           real = s.real;
-          is_allowed = listed-allowed lines list known meet (find-listed (λ (meet : Meet). says (pairs tsi tsr) meet.region) list meet e) s.point s.real s.inside;
+          is_allowed = listed-allowed lines list known meet (find-listed (says_in (pairs tsi tsr)) list meet e) s.point s.real s.inside;
           is_covered = sym (cov s.point) ∙ s.reached;
           can_be_said = s.sayable;
         }
 
-    acceptable : (meet : Meet) → find (λ (meet : Meet). says (pairs tsi tsr) meet.region) list ≡ Some meet → SomeAcceptable lines tsi tsr
+    acceptable : (meet : Meet) → find (says_in (pairs tsi tsr)) list ≡ Some meet → SomeAcceptable lines tsi tsr
     acceptable meet e =
         let s = said-at meet e in
         record { point = s.point; place = meet.link; is_allowed = s.is_allowed; is_covered = s.is_covered; can_be_said = s.can_be_said }
 
-    unacceptable : find (λ (meet : Meet). says (pairs tsi tsr) meet.region) list ≡ None → SomeAcceptable lines tsi tsr → ⊥
+    unacceptable : find (says_in (pairs tsi tsr)) list ≡ None → SomeAcceptable lines tsi tsr → ⊥
     unacceptable e a =
         let real = allowed-real lines a.place a.point a.is_allowed in
-        let some = find-some (λ (meet : Meet). says (pairs tsi tsr) meet.region) list
-        (point-passes (λ (meet : Meet). says (pairs tsi tsr) meet.region) a.place a.point
+        let some = find-some (says_in (pairs tsi tsr)) list
+        (point-passes (says_in (pairs tsi tsr)) a.place a.point
         (λ m same has. says-from (pairs tsi tsr) m.region (record {
           point = a.point;
           real = real;
@@ -130,8 +137,10 @@ module _ (lines : List LineParts) (list : List Meet)
     missed region h =
         let found = find-some (misses (pairs tsi tsr) region) list h in
         let meet = found.0 in
-        let o = pieces-some (pairs tsi tsr) (box_minus meet.region region) (find-passes (misses (pairs tsi tsr) region) list meet found.1) in
-        let p = and_parts (box_has meet.region o.point) (not (box_has region o.point)) (sym (box_laws.minus_has meet.region region o.point) ∙ o.inside) in (
+        let o = pieces-some (pairs tsi tsr) (box_minus meet.region region)
+        (find-passes (misses (pairs tsi tsr) region) list meet found.1) in
+        let p = and_parts (box_has meet.region o.point) (not (box_has region o.point))
+        (sym (box_laws.minus_has meet.region region o.point) ∙ o.inside) in (
           o.point,
           (
             meet.link,
@@ -142,13 +151,14 @@ module _ (lines : List LineParts) (list : List Meet)
           ),
         )
 
-    missed-from : (region : AnyBox) (place : ℕ) (x : PointFields) → allowed lines place x ≡ true → covered tsi tsr x ≡ true → box_has region x ≡ false →
-        list_any (misses (pairs tsi tsr) region) list ≡ true
+    missed-from : (region : AnyBox) (place : ℕ) (x : PointFields) → allowed lines place x ≡ true → covered tsi tsr x ≡ true →
+        box_has region x ≡ false → list_any (misses (pairs tsi tsr) region) list ≡ true
     missed-from region place x is_allowed is_covered lacks =
         let real = allowed-real lines place x is_allowed in
         point-passes (misses (pairs tsi tsr) region) place x
         (λ m same has. pieces-at (pairs tsi tsr) (box_minus m.region region) x real
-        (box_laws.minus_has m.region region x ∙ and_from (box_has m.region x) (not (box_has region x)) has (ap not lacks)) (cov x ∙ is_covered))
+        (box_laws.minus_has m.region region x ∙ and_from (box_has m.region x) (not (box_has region x)) has (ap not lacks))
+        (cov x ∙ is_covered))
         list (known place x real ∙ is_allowed)
 
     tells : (chosen : Choice) → Right chosen → TellsOfLeft lines tsi tsr (answer_of tsi tsr (pairs tsi tsr) list chosen)
@@ -168,8 +178,8 @@ module _ (lines : List LineParts) (list : List Meet)
           let real = allowed-real lines left.place left.point left.is_allowed in
           missed-from chosen.region left.place left.point left.is_allowed left.is_covered
           (false_from_ne_true (box_has chosen.region left.point) (λ has.
-          false≢true (sym left.is_left ∙ right.covers left.point real ∙ and_from (covered tsi tsr left.point) (box_has chosen.region left.point)
-          left.is_covered has))),
+          false≢true (sym left.is_left ∙ right.covers left.point real
+          ∙ and_from (covered tsi tsr left.point) (box_has chosen.region left.point) left.is_covered has))),
     )
 
     within : (chosen : Choice) → Right chosen → IsWithin lines tsi tsr (answer_of tsi tsr (pairs tsi tsr) list chosen)
@@ -177,8 +187,9 @@ module _ (lines : List LineParts) (list : List Meet)
         let p = and_parts (covered tsi tsr x) (box_has chosen.region x) (sym (right.covers x real) ∙ inside) in
         (p.0, right.allows x real p.1)
 
-    keeps : (chosen : Choice) → Right chosen → ((some : SomeFirst tsi tsr) (place : ℕ) → AllAllowed lines place (take 1 tsi) (take 1 tsr) → (x : PointFields) →
-        IsReal x → covered (take 1 tsi) (take 1 tsr) x ≡ true → box_has chosen.region x ≡ true) →
+    keeps : (chosen : Choice) → Right chosen →
+        ((some : SomeFirst tsi tsr) (place : ℕ) → AllAllowed lines place (take 1 tsi) (take 1 tsr) → (x : PointFields) → IsReal x →
+        covered (take 1 tsi) (take 1 tsr) x ≡ true → box_has chosen.region x ≡ true) →
         KeepsFirst lines tsi tsr (answer_of tsi tsr (pairs tsi tsr) list chosen)
     keeps chosen right holds some place all x real inside =
         right.covers x real
@@ -196,7 +207,16 @@ module _ (lines : List LineParts) (list : List Meet)
           SomeAcceptable lines tsi tsr
       gives_is : (place : ℕ) → SomeAcceptable lines tsi tsr → AllAllowed lines place tsi tsr → answer ≡ Pair tsi tsr place false
 
-    chosen-answered : (meet : Meet) → find (λ (meet : Meet). says (pairs tsi tsr) meet.region) list ≡ Some meet →
+    -- Where the line of the meet doesn't allow all, none does.
+    none-allows : (meet : Meet) → find (says_in (pairs tsi tsr)) list ≡ Some meet →
+        leaves (pairs tsi tsr) (regions_of meet.link list) ≡ true → (place : ℕ) → AllAllowed lines place tsi tsr → ⊥
+    none-allows meet e left place all =
+        let a = said-at meet e in
+        let same : meet.link ≡ place = allowed-one lines meet.link place a.point a.is_allowed (all a.point a.real a.is_covered) in
+        false≢true
+        (sym (whole-kept place all) ∙ subst (λ (n : ℕ). leaves (pairs tsi tsr) (regions_of n list) ≡ true) same left)
+
+    chosen-answered : (meet : Meet) → find (says_in (pairs tsi tsr)) list ≡ Some meet →
         leaves (pairs tsi tsr) (regions_of meet.link list) ≡ true →
         IsAnswered (answer_of tsi tsr (pairs tsi tsr) list (choice (pairs tsi tsr) (first_pair tsi tsr) meet list))
     chosen-answered meet e left =
@@ -208,20 +228,17 @@ module _ (lines : List LineParts) (list : List Meet)
           some_is = record {
             point = s.point;
             real = s.real;
-            is_covered = right.covers s.point s.real ∙ and_from (covered tsi tsr s.point) (box_has chosen.region s.point) s.is_covered s.inside;
+            is_covered = right.covers s.point s.real
+                ∙ and_from (covered tsi tsr s.point) (box_has chosen.region s.point) s.is_covered s.inside;
           };
           keeps_is = keeps chosen right (choice-first lines list known tsi tsr hi hr meet);
           tells_is = tells chosen right;
           refuses_is = (λ same. cc, λ none. absurd (none (acceptable meet e)));
           acceptable_is = λ t u place additional same. acceptable meet e;
-          gives_is = λ place some all.
-              let a = said-at meet e in
-              let real = a.real in
-              let same : meet.link ≡ place = allowed-one lines meet.link place a.point a.is_allowed (all a.point real a.is_covered) in
-              absurd (false≢true (sym (whole-kept place all) ∙ subst (λ (n : ℕ). leaves (pairs tsi tsr) (regions_of n list) ≡ true) same left));
+          gives_is = λ place some all. absurd (none-allows meet e left place all);
         }
 
-    whole-answered : (meet : Meet) → find (λ (meet : Meet). says (pairs tsi tsr) meet.region) list ≡ Some meet →
+    whole-answered : (meet : Meet) → find (says_in (pairs tsi tsr)) list ≡ Some meet →
         leaves (pairs tsi tsr) (regions_of meet.link list) ≡ false → IsAnswered (Pair tsi tsr meet.link false)
     whole-answered meet e none = record {
       within_is = λ x real inside. (inside, whole-allowed meet.link none x real inside);
@@ -232,11 +249,10 @@ module _ (lines : List LineParts) (list : List Meet)
       acceptable_is = λ t u place additional same. acceptable meet e;
       gives_is = λ place some all.
           let a = said-at meet e in
-          let real = a.real in
-          ap (λ (n : ℕ). Pair tsi tsr n false) (allowed-one lines meet.link place a.point a.is_allowed (all a.point real a.is_covered));
+          ap (λ (n : ℕ). Pair tsi tsr n false) (allowed-one lines meet.link place a.point a.is_allowed (all a.point a.real a.is_covered));
     }
 
-    refused-answered : find (λ (meet : Meet). says (pairs tsi tsr) meet.region) list ≡ None → IsAnswered Unacceptable
+    refused-answered : find (says_in (pairs tsi tsr)) list ≡ None → IsAnswered Unacceptable
     refused-answered e = record {
       within_is = tt;
       some_is = tt;
@@ -248,15 +264,16 @@ module _ (lines : List LineParts) (list : List Meet)
     }
 
     meets-answered : IsAnswered (by_meets list tsi tsr)
-    meets-answered = go (find (λ (meet : Meet). says (pairs tsi tsr) meet.region) list) refl
+    meets-answered = go (find (says_in (pairs tsi tsr)) list) refl
       where
-        left : (meet : Meet) → find (λ (meet : Meet). says (pairs tsi tsr) meet.region) list ≡ Some meet → (b : Bool) →
+        left : (meet : Meet) → find (says_in (pairs tsi tsr)) list ≡ Some meet → (b : Bool) →
             leaves (pairs tsi tsr) (regions_of meet.link list) ≡ b →
-            IsAnswered (cond b (answer_of tsi tsr (pairs tsi tsr) list (choice (pairs tsi tsr) (first_pair tsi tsr) meet list)) (Pair tsi tsr meet.link false))
+            IsAnswered (cond b (answer_of tsi tsr (pairs tsi tsr) list (choice (pairs tsi tsr) (first_pair tsi tsr) meet list))
+            (Pair tsi tsr meet.link false))
         left meet e true h = chosen-answered meet e h
         left meet e false h = whole-answered meet e h
 
-        go : (o : Option Meet) → find (λ (meet : Meet). says (pairs tsi tsr) meet.region) list ≡ o →
+        go : (o : Option Meet) → find (says_in (pairs tsi tsr)) list ≡ o →
             IsAnswered (by_said tsi tsr (pairs tsi tsr) list o)
         go None e = refused-answered e
         go (Some meet) e = left meet e (leaves (pairs tsi tsr) (regions_of meet.link list)) refl
@@ -306,52 +323,3 @@ module _ (lines : List LineParts) (outbound inbound : List Entry) (both : StandF
       first = narrowing-first;
       left = narrowing-notice;
     }
-
--- ---- the selectors of an answer
-
-first_right : (list : List Ts) → AreSelectors list → AreSelectors (take 1 list) × (length (take 1 list) ≤ 2 * length list)
-first_right [] h = (refl, omega arith)
-first_right (s ∷ list) h = (and_from (is_selector s) true (and_parts (is_selector s) (list_all is_selector list) h).0 refl, omega arith)
-
--- A clause on what is answered, from the value.
-pub answer-at : {E : Type 0} (result : Result Narrowed E) (value : Narrowed) (P : Narrowed → Type 0) → IfOk result (λ answer. answer ≡ value) → P value →
-    IfOk result P
-answer-at (Ok answer) value P same holds = subst P (sym same) holds
-answer-at (Err e) value P same holds = tt
-
--- The selectors of the answer.
-cut_right : (chosen : Choice) (form : Form) (tsi tsr : List Ts) → AreSelectors tsi → AreSelectors tsr → (form ≡ Form.Cut → can_write chosen.region ≡ true) →
-    (AreSelectors (tsi_of chosen form tsi) × AreSelectors (tsr_of chosen form tsr))
-    × ((length (tsi_of chosen form tsi) ≤ 2 * length tsi) × (length (tsr_of chosen form tsr) ≤ 2 * length tsr))
-cut_right chosen Form.Cut tsi tsr hi hr writable =
-    let sides = and_parts (is_writable (local_side chosen.region)) (is_writable (remote_side chosen.region)) (writable refl) in (
-      (cut_selectors-right (remote_side chosen.region) tsi hi sides.1, cut_selectors-right (local_side chosen.region) tsr hr sides.0),
-      (cut_selectors-few (remote_side chosen.region) tsi hi sides.1, cut_selectors-few (local_side chosen.region) tsr hr sides.0),
-    )
-cut_right chosen Form.FirstPair tsi tsr hi hr writable =
-    let i = first_right tsi hi in
-    let r = first_right tsr hr in
-    ((i.0, r.0), (i.1, r.1))
-
-module _ (list : List Meet) (tsi tsr : List Ts) (hi : AreSelectors tsi) (hr : AreSelectors tsr) where
-  pub by_meets-selectors : HasSelectors tsi tsr (by_meets list tsi tsr)
-  by_meets-selectors = go (find (λ (meet : Meet). says (pairs tsi tsr) meet.region) list) refl
-    where
-      left : (meet : Meet) → says (pairs tsi tsr) meet.region ≡ true → (b : Bool) →
-          HasSelectors tsi tsr (cond b (answer_of tsi tsr (pairs tsi tsr) list (choice (pairs tsi tsr) (first_pair tsi tsr) meet list))
-          (Pair tsi tsr meet.link false))
-      left meet h true =
-          let chosen = choice (pairs tsi tsr) (first_pair tsi tsr) meet list in
-          cut_right chosen chosen.form tsi tsr hi hr (choice-writable (pairs tsi tsr) (first_pair tsi tsr) meet list h)
-      left meet h false = ((hi, hr), (omega arith, omega arith))
-
-      go : (o : Option Meet) → find (λ (meet : Meet). says (pairs tsi tsr) meet.region) list ≡ o →
-          HasSelectors tsi tsr (by_said tsi tsr (pairs tsi tsr) list o)
-      go None e = tt
-      go (Some meet) e =
-          left meet (find-passes (λ (meet : Meet). says (pairs tsi tsr) meet.region) list meet e) (leaves (pairs tsi tsr) (regions_of meet.link list))
-
-pub narrowing-selectors : (outbound inbound : List Entry) (tsi tsr : List Ts) → AreSelectors tsi → AreSelectors tsr →
-    HasSelectors tsi tsr (narrowing outbound inbound tsi tsr)
-unfolding narrowing
-narrowing-selectors outbound inbound tsi tsr hi hr = by_meets-selectors (meets outbound inbound) tsi tsr hi hr

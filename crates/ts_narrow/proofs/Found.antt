@@ -1,16 +1,25 @@
 -- What is found in a list of meets.
-use Rattle.std.proofs.Common.{◌≡◌, ℕ, Bool, true, false, ◌||◌, ◌==◌, cond, List, [], ◌∷◌, ◌++◌, Option, Some, None, refl, sym, subst, ap, ◌∙◌}
-use Rattle.std.proofs.Common.{inl, inr}
-use Rattle.std.specs.List.{find, flat_map, list_any}
+use Rattle.std.proofs.Common.{◌≡◌, ℕ, Bool, true, false, ◌||◌, ◌==◌, cond, List, [], ◌∷◌, Option, Some, None}
+use Rattle.std.proofs.Common.{inl, inr, refl, sym, subst, ap, ◌∙◌}
+use Rattle.std.specs.List.{find, list_any}
 use Rattle.std.specs.Option.{is_some}
 use Rattle.std.proofs.lemmas.Bool.{eq-eqb, eqb-true, false≢true, or_cases, or_left, or_right}
 use Rattle.std.proofs.lemmas.List.Folds.{list_any-append}
 use Rattle.std.proofs.lemmas.Option.{none-some, same_Some}
+use Rattle.sel_box.specs.declared.any_box.AnyBox.{AnyBox}
 use Rattle.sel_box.specs.Boxes.{box_has}
 use Rattle.sel_box.specs.Point.{PointFields}
 use Rattle.ts_cover.specs.Pairs.{boxes_have}
+use Rattle.ts_cover.specs.RealParts.{reaches, says}
 use Rattle.ts_narrow.specs.declared.meets.Meet.{Meet}
 use Rattle.ts_narrow.specs.Meets.{region_of, regions_of}
+
+-- A meet has a real point in some of the boxes, and a sayable one.
+abbrev pub reaches_in : List AnyBox → Meet → Bool
+reaches_in boxes meet = reaches boxes meet.region
+
+abbrev pub says_in : List AnyBox → Meet → Bool
+says_in boxes meet = says boxes meet.region
 
 pub find-passes : {X : Type 0} (p : X → Bool) (xs : List X) (x : X) → find p xs ≡ Some x → p x ≡ true
 find-passes p [] x h = absurd (none-some x h)
@@ -46,7 +55,8 @@ listed_first meet list = record {
   points = λ x has.
       list_any-append (λ r. box_has r x) (region_of meet.link meet) (regions_of meet.link list)
       ∙ or_left (boxes_have (region_of meet.link meet) x) (boxes_have (regions_of meet.link list) x)
-      (ap (λ (b : Bool). boxes_have (cond b (meet.region ∷ []) []) x) (eq-eqb meet.link meet.link refl) ∙ or_left (box_has meet.region x) false has);
+      (ap (λ (b : Bool). boxes_have (cond b (meet.region ∷ []) []) x) (eq-eqb meet.link meet.link refl)
+      ∙ or_left (box_has meet.region x) false has);
 }
 
 listed_later : (other meet : Meet) (list : List Meet) → IsListed list meet → IsListed (other ∷ list) meet
@@ -66,7 +76,8 @@ find-listed p (m ∷ list) meet h = go (find-listed p list meet) (p m) h
     go later false h = listed_later m meet list (later h)
 
 -- Where a point is in the regions of a line, a test passes for some meet that passes for each that has the point.
-pub point-passes : (q : Meet → Bool) (place : ℕ) (x : PointFields) → ((m : Meet) → m.link ≡ place → box_has m.region x ≡ true → q m ≡ true) →
+pub point-passes : (q : Meet → Bool) (place : ℕ) (x : PointFields) →
+    ((m : Meet) → m.link ≡ place → box_has m.region x ≡ true → q m ≡ true) →
     (list : List Meet) → boxes_have (regions_of place list) x ≡ true → list_any q list ≡ true
 unfolding regions_of
 point-passes q place x passes [] h = cc

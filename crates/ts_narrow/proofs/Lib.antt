@@ -3,5 +3,9 @@ pub mod Passed
 pub mod Waiting
 pub mod Found
 pub mod MeetPoints
+pub mod FirstPair
+pub mod Served
+pub mod Kept
 pub mod Chosen
 pub mod AnswerPoints
+pub mod AnswerSelectors

@@ -1,5 +1,6 @@
 -- The meets of a line have exactly the real points that the line allows.
-use Rattle.std.proofs.Common.{◌≡◌, ℕ, Bool, true, false, ◌==◌, ◌&&◌, ◌||◌, cond, List, [], ◌∷◌, ◌++◌, Option, Some, None, option_map, refl, sym, ap, ap₂, ◌∙◌, arith}
+use Rattle.std.proofs.Common.{◌≡◌, ℕ, Bool, true, false, ◌==◌, ◌&&◌, ◌||◌, cond, List, [], ◌∷◌, ◌++◌, Option, Some}
+use Rattle.std.proofs.Common.{None, option_map, refl, sym, ap, ap₂, ◌∙◌}
 use Rattle.std.specs.List.{All, flat_map, list_any}
 use Rattle.std.specs.Option.{option_to_list}
 use Rattle.std.proofs.Math.Bool.{and-false, or-false}
@@ -91,8 +92,10 @@ module _ (x : PointFields) (place out_place in_place : ℕ) (out_judged in_judge
       has_meet place (meets_with e inbound) x ≡ (entry_has e x && (list_any (λ f. entry_has f x) inbound && accepted))
   with-has e [] is_out are_in = sym (and-false (entry_has e x))
   with-has e (f ∷ inbound) is_out are_in =
-      ap (λ (boxes : List AnyBox). boxes_have boxes x) (flat_map-append (region_of place) (option_to_list (meet_of e f)) (meets_with e inbound))
-      ∙ list_any-append (λ r. box_has r x) (flat_map (region_of place) (option_to_list (meet_of e f))) (flat_map (region_of place) (meets_with e inbound))
+      ap (λ (boxes : List AnyBox). boxes_have boxes x)
+      (flat_map-append (region_of place) (option_to_list (meet_of e f)) (meets_with e inbound))
+      ∙ list_any-append (λ r. box_has r x) (flat_map (region_of place) (option_to_list (meet_of e f)))
+      (flat_map (region_of place) (meets_with e inbound))
       ∙ ap₂ (λ (a b : Bool). a || b)
       (meet-has place e f x ∙ settled e f is_out (All-head (IsOf x in_place in_judged) f inbound are_in))
       (with-has e inbound is_out (All-tail (IsOf x in_place in_judged) f inbound are_in))
@@ -155,7 +158,8 @@ meets-allowed lines outbound inbound both place x real =
     all-have x place out_place in_place out_judged in_judged outbound inbound
     (are_of x out_place out_judged outbound (out.link x point) (out.judged x point))
     (are_of x in_place in_judged inbound (in'.link x point) (in'.judged x point))
-    ∙ ap₂ (λ (a b : Bool). a && (b && (((out_place == in_place) && (is_protect out_judged && is_protect in_judged)) && (out_place == place))))
+    ∙ ap₂ (λ (a b : Bool).
+    a && (b && (((out_place == in_place) && (is_protect out_judged && is_protect in_judged)) && (out_place == place))))
     (some_from_one x outbound (out.one x real)) (some_from_one x inbound (in'.one x real))
     ∙ both_placed out_place in_place place (is_protect out_judged) (is_protect in_judged)
     ∙ ap (λ (b : Bool). b && (protects lines place Outbound x && protects lines place Inbound x))
@@ -163,7 +167,8 @@ meets-allowed lines outbound inbound both place x real =
 
 pub allowed-real : (lines : List LineParts) (place : ℕ) (x : PointFields) → allowed lines place x ≡ true → IsReal x
 allowed-real lines place x h =
-    (real_point-real (real_point x) x refl).0 (and_parts (real_point x) (protects lines place Outbound x && protects lines place Inbound x) h).0
+    (real_point-real (real_point x) x refl).0
+    (and_parts (real_point x) (protects lines place Outbound x && protects lines place Inbound x) h).0
 
 -- One line allows a point at most.
 pub allowed-one : (lines : List LineParts) (m n : ℕ) (x : PointFields) → allowed lines m x ≡ true → allowed lines n x ≡ true → m ≡ n
@@ -171,5 +176,6 @@ allowed-one lines m n x a b =
     let at : (k : ℕ) → allowed lines k x ≡ true → first_place Outbound x lines ≡ k = λ k h.
     let p = (and_parts (real_point x) (protects lines k Outbound x && protects lines k Inbound x) h).1 in
     let q = (and_parts (protects lines k Outbound x) (protects lines k Inbound x) p).0 in
-    eqb-true (first_place Outbound x lines) k (and_parts (first_place Outbound x lines == k) (is_protect (verdict_of Outbound x lines).judgement) q).0 in
+    eqb-true (first_place Outbound x lines) k
+    (and_parts (first_place Outbound x lines == k) (is_protect (verdict_of Outbound x lines).judgement) q).0 in
     sym (at m a) ∙ at n b

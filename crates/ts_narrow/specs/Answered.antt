@@ -1,5 +1,5 @@
 -- What is true of an answer to a proposal, by points.
-use Rattle.std.specs.Prelude.{◌≡◌, ℕ, Bool, true, false, ◌↔◌, ◌*◌, ◌≤◌, List, length, take, IsTrue}
+use Rattle.std.specs.Prelude.{◌≡◌, ℕ, true, false, ◌↔◌, ◌*◌, ◌≤◌, List, length, take, IsTrue}
 use Rattle.sel_box.specs.Point.{PointFields, IsReal}
 use Rattle.spd_line.specs.declared.line.LineParts.{LineParts}
 use Rattle.ts_cover.specs.Covered.{covered, is_sayable}

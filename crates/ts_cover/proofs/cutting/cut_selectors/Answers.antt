@@ -26,7 +26,8 @@ pub returns-clause-few : goal.returns-clause-few
 returns-clause-few c = cut_selectors-few c.args.side.now c.args.selectors.now c.requires.selectors c.requires.writable
 
 pub returns-in_err-put_cut-clause-selectors : goal.returns-in_err-put_cut-clause-selectors
-returns-in_err-put_cut-clause-selectors c = cut_selectors-right c.args.side.now c.args.selectors.now c.requires.selectors c.requires.writable
+returns-in_err-put_cut-clause-selectors c =
+    cut_selectors-right c.args.side.now c.args.selectors.now c.requires.selectors c.requires.writable
 
 pub returns-in_err-put_cut-clause-few : goal.returns-in_err-put_cut-clause-few
 returns-in_err-put_cut-clause-few c = cut_selectors-few c.args.side.now c.args.selectors.now c.requires.selectors c.requires.writable

@@ -1,4 +1,4 @@
-use Rattle.std.proofs.Common.{sym, subst, ap, ◌∙◌}
+use Rattle.std.proofs.Common.{sym, ◌∙◌}
 use Rattle.ts_cover.specs.RealParts.{says}
 use Rattle.ts_narrow.specs.declared.meets.Meet.{Meet}
 use Rattle.ts_narrow.specs.Meets.{meets}

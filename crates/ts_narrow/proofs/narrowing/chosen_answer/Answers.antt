@@ -4,13 +4,14 @@ use Rattle.ts_narrow.specs.declared.choice.Choice.{Choice}
 use Rattle.ts_narrow.specs.Meets.{meets}
 use Rattle.ts_narrow.specs.Narrowing.{answer_of, choice}
 use Rattle.ts_narrow.proofs.Answering.{if_ok_then}
-use Rattle.ts_narrow.proofs.Chosen.{IsWritable, choice-writable}
+use Rattle.ts_narrow.proofs.Served.{IsWritable, choice-writable}
 use Rattle.ts_narrow.proofs.narrowing.chosen_answer.Goals as goal
 
 pub answer_of-requires-clause-writable : goal.answer_of-requires-clause-writable
 answer_of-requires-clause-writable c =
     subst IsWritable (sym c.in_ok-chosen.ensures)
-    (choice-writable c.args.cover.now c.first_pair-first.result c.args.said.now (meets c.args.outbound.now c.args.inbound.now) c.requires.said)
+    (choice-writable c.args.cover.now c.first_pair-first.result c.args.said.now (meets c.args.outbound.now c.args.inbound.now)
+    c.requires.said)
 
 pub returns : goal.returns
 returns c =

@@ -3,8 +3,10 @@ use Rattle.spd_line.specs.declared.line.LineParts.{LineParts}
 use Rattle.ts_narrow.specs.Allowed.{StandForBoth}
 use Rattle.ts_narrow.specs.Answered.{CoversSome, GivesWhole, HasSelectors, IsWithin, KeepsFirst, RefusesRightly, TellsOfLeft}
 use Rattle.ts_narrow.specs.Narrowing.{narrowing}
-use Rattle.ts_narrow.proofs.AnswerPoints.{answer-at, narrowing-first, narrowing-notice, narrowing-selectors, narrowing-some}
+use Rattle.ts_narrow.proofs.AnswerPoints.{narrowing-first, narrowing-notice, narrowing-some}
 use Rattle.ts_narrow.proofs.AnswerPoints.{narrowing-unacceptable, narrowing-whole, narrowing-within}
+use Rattle.ts_narrow.proofs.AnswerSelectors.{narrowing-selectors}
+use Rattle.ts_narrow.proofs.Answering.{answer-at}
 use Rattle.ts_narrow.proofs.narrowing.narrow.Goals as goal
 
 pub returns-clause-unacceptable : goal.returns-clause-unacceptable
