@@ -25,6 +25,8 @@ use Rattle.ts_narrow.specs.declared.narrowed.Narrowed.TheVariants.{Pair, Unaccep
 use Rattle.ts_narrow.specs.Allowed.{StandForBoth, allowed}
 use Rattle.ts_narrow.specs.Answered.{AllAllowed, CoversSome, GivesWhole, IsRightAnswer, IsWithin, KeepsFirst, RefusesRightly}
 use Rattle.ts_narrow.specs.Answered.{SomeAcceptable, SomeFirst, TellsOfLeft}
+use Rattle.ts_narrow.specs.IsNarrowing.{IsNarrowing, NoneAllows}
+use Rattle.ts_narrow.specs.IsNarrowing.IsPicked.{by_all}
 use Rattle.ts_narrow.specs.Meets.{meets, regions_of}
 use Rattle.ts_narrow.specs.Narrowing.{answer_of, by_meets, by_said, choice, misses, narrowing}
 use Rattle.ts_narrow.proofs.Chosen.{IsRight, choice-first, choice-right, choice-some}
@@ -32,6 +34,7 @@ use Rattle.ts_narrow.proofs.FirstPair.{first-covered}
 use Rattle.ts_narrow.proofs.Found.{find-listed, find-passes, find-some, point-passes, says_in}
 use Rattle.ts_narrow.proofs.Kept.{allowed-kept, kept-allowed, listed-allowed}
 use Rattle.ts_narrow.proofs.MeetPoints.{allowed-one, allowed-real, meets-allowed}
+use Rattle.ts_narrow.proofs.Picks.{choice-picked}
 
 -- ---- a meet outside a region
 
@@ -206,10 +209,11 @@ module _ (lines : List LineParts) (list : List Meet)
       acceptable_is : (some_tsi some_tsr : List Ts) (place : ℕ) (additional : Bool) → answer ≡ Pair some_tsi some_tsr place additional →
           SomeAcceptable lines tsi tsr
       gives_is : (place : ℕ) → SomeAcceptable lines tsi tsr → AllAllowed lines place tsi tsr → answer ≡ Pair tsi tsr place false
+      narrowing_is : IsNarrowing lines list tsi tsr answer
 
     -- Where the line of the meet doesn't allow all, none does.
     none-allows : (meet : Meet) → find (says_in (pairs tsi tsr)) list ≡ Some meet →
-        leaves (pairs tsi tsr) (regions_of meet.link list) ≡ true → (place : ℕ) → AllAllowed lines place tsi tsr → ⊥
+        leaves (pairs tsi tsr) (regions_of meet.link list) ≡ true → NoneAllows lines tsi tsr
     none-allows meet e left place all =
         let a = said-at meet e in
         let same : meet.link ≡ place = allowed-one lines meet.link place a.point a.is_allowed (all a.point a.real a.is_covered) in
@@ -236,6 +240,11 @@ module _ (lines : List LineParts) (list : List Meet)
           refuses_is = (λ same. cc, λ none. absurd (none (acceptable meet e)));
           acceptable_is = λ t u place additional same. acceptable meet e;
           gives_is = λ place some all. absurd (none-allows meet e left place all);
+          narrowing_is = (
+            acceptable meet e,
+            choice-picked lines list known tsi tsr hi hr (none-allows meet e left) meet e,
+            tells chosen right,
+          );
         }
 
     whole-answered : (meet : Meet) → find (says_in (pairs tsi tsr)) list ≡ Some meet →
@@ -250,6 +259,11 @@ module _ (lines : List LineParts) (list : List Meet)
       gives_is = λ place some all.
           let a = said-at meet e in
           ap (λ (n : ℕ). Pair tsi tsr n false) (allowed-one lines meet.link place a.point a.is_allowed (all a.point a.real a.is_covered));
+      narrowing_is = (
+        acceptable meet e,
+        by_all meet.link (whole-allowed meet.link none) refl,
+        (λ h. cc, λ left. absurd (false≢true (sym left.is_left ∙ left.is_covered))),
+      );
     }
 
     refused-answered : find (says_in (pairs tsi tsr)) list ≡ None → IsAnswered Unacceptable
@@ -261,6 +275,7 @@ module _ (lines : List LineParts) (list : List Meet)
       refuses_is = (λ same some. unacceptable e some, λ none. refl);
       acceptable_is = λ t u place additional same. cc;
       gives_is = λ place some all. absurd (unacceptable e some);
+      narrowing_is = unacceptable e;
     }
 
     meets-answered : IsAnswered (by_meets list tsi tsr)
@@ -313,6 +328,9 @@ module _ (lines : List LineParts) (outbound inbound : List Entry) (both : StandF
       ),
       λ both. answered.gives_is place both.0 both.1,
     )
+
+    pub narrowing-is : IsNarrowing lines (meets outbound inbound) tsi tsr (narrowing outbound inbound tsi tsr)
+    narrowing-is = answered.narrowing_is
 
     pub narrowing-right : IsRightAnswer lines tsi tsr (narrowing outbound inbound tsi tsr)
     narrowing-right = record {

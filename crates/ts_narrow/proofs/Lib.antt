@@ -7,5 +7,7 @@ pub mod FirstPair
 pub mod Served
 pub mod Kept
 pub mod Chosen
+pub mod Picks
 pub mod AnswerPoints
 pub mod AnswerSelectors
+pub mod OneAnswer
