@@ -8,6 +8,7 @@ ghost use Rattle.ts_narrow.specs.declared.choice.Form.{Form};
 ghost use Rattle.ts_narrow.specs.declared.narrowed.Narrowed.{Narrowed};
 ghost use Rattle.ts_narrow.specs.Allowed.{StandForBoth};
 ghost use Rattle.ts_narrow.specs.Answered as answered;
+ghost use Rattle.ts_narrow.specs.IsNarrowing.{IsNarrowing};
 ghost use Rattle.ts_narrow.specs.Meets as listed;
 ghost use Rattle.ts_narrow.specs.Narrowing as meaning;
 
@@ -64,6 +65,10 @@ pub fn narrow(
     ensures notice { IfOk result (λ answer.
         (lines : List LineParts) → StandForBoth lines outbound.now inbound.now
         → answered.TellsOfLeft lines proposal.now.tsi proposal.now.tsr answer) }
+    ensures is_narrowing { IfOk result (λ answer.
+        (lines : List LineParts) → StandForBoth lines outbound.now inbound.now
+        → IsNarrowing lines (listed.meets outbound.now inbound.now)
+        proposal.now.tsi proposal.now.tsr answer) }
     ensures selectors { IfOk result (answered.HasSelectors proposal.now.tsi proposal.now.tsr) }
 {
     answer(

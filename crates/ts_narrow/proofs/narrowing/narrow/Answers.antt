@@ -2,8 +2,10 @@ use Rattle.std.proofs.Common.{List, rules}
 use Rattle.spd_line.specs.declared.line.LineParts.{LineParts}
 use Rattle.ts_narrow.specs.Allowed.{StandForBoth}
 use Rattle.ts_narrow.specs.Answered.{CoversSome, GivesWhole, HasSelectors, IsWithin, KeepsFirst, RefusesRightly, TellsOfLeft}
+use Rattle.ts_narrow.specs.IsNarrowing.{IsNarrowing}
+use Rattle.ts_narrow.specs.Meets.{meets}
 use Rattle.ts_narrow.specs.Narrowing.{narrowing}
-use Rattle.ts_narrow.proofs.AnswerPoints.{narrowing-first, narrowing-notice, narrowing-some}
+use Rattle.ts_narrow.proofs.AnswerPoints.{narrowing-first, narrowing-is, narrowing-notice, narrowing-some}
 use Rattle.ts_narrow.proofs.AnswerPoints.{narrowing-unacceptable, narrowing-whole, narrowing-within}
 use Rattle.ts_narrow.proofs.AnswerSelectors.{narrowing-selectors}
 use Rattle.ts_narrow.proofs.Answering.{answer-at}
@@ -62,6 +64,17 @@ returns-clause-notice c =
     (λ answer. (lines : List LineParts) → StandForBoth lines c.args.outbound.now c.args.inbound.now → TellsOfLeft lines tsi tsr answer)
     (search rules)
     (λ lines both. narrowing-notice lines c.args.outbound.now c.args.inbound.now both tsi tsr c.requires.tsi c.requires.tsr)
+
+pub returns-clause-is_narrowing : goal.returns-clause-is_narrowing
+returns-clause-is_narrowing c =
+    let tsi = c.args.proposal.now.tsi in
+    let tsr = c.args.proposal.now.tsr in
+    let list = meets c.args.outbound.now c.args.inbound.now in
+    answer-at c.answer.result (narrowing c.args.outbound.now c.args.inbound.now tsi tsr)
+    (λ answer. (lines : List LineParts) → StandForBoth lines c.args.outbound.now c.args.inbound.now →
+    IsNarrowing lines list tsi tsr answer)
+    (search rules)
+    (λ lines both. narrowing-is lines c.args.outbound.now c.args.inbound.now both tsi tsr c.requires.tsi c.requires.tsr)
 
 pub returns-clause-selectors : goal.returns-clause-selectors
 returns-clause-selectors c =
