@@ -103,7 +103,7 @@ on_all_axes b other =
 
 -- Boxes that meet have a point in common, so they are of one family and overlap.
 
-common_point : (b other : AnyBox) → meets b other ≡ true → (x : PointFields) × (box_has other x ≡ true) × (box_has b x ≡ true)
+pub common_point : (b other : AnyBox) → meets b other ≡ true → (x : PointFields) × (box_has other x ≡ true) × (box_has b x ≡ true)
 common_point b other = go (box_meet other b) (box_laws.meet_has other b)
   where
     go : (common : Option AnyBox) → ((x : PointFields) → some_has box_has common x ≡ (box_has other x && box_has b x))

@@ -11,4 +11,5 @@ pub mod laws;
 mod listed;
 mod placed;
 mod rule;
+mod starts;
 mod writing;

@@ -1,6 +1,7 @@
 ghost use Rattle.std.specs.Prelude.{◌≡◌, ◌≤◌, length, IfOk};
 ghost use Rattle.spd_line.specs.Policy.{most_lines};
 ghost use Rattle.cert_rows.specs.Gathered.{rows_at};
+ghost use Rattle.sel_tree.specs.FirstMet.{NoneMet};
 ghost use Rattle.cert_make.specs.Rule.{first_met, placed};
 ghost use Rattle.cert_make.specs.inner.PlacedBy.{placed_by};
 
@@ -34,16 +35,23 @@ impl Listed {
         })
     }
 
-    // The first box that has a point of the region, found without a look at each.
-    pub fn first_met(&self, region: &AnyBox) -> Option<PlacedBox>
-        ensures { result ≡ first_met region.now (placed_by self.now.regions self.now.marks.items) }
+    // The first box that has a point of the region, where none before an index has; the index then
+    // is that box's own. Found without a look at each.
+    pub fn first_met(&self, from: &mut usize, region: &AnyBox) -> Option<PlacedBox>
+        requires { NoneMet 0 from.old region.now self.now.regions }
+        ensures met { result
+            ≡ first_met region.now (placed_by self.now.regions self.now.marks.items) }
+        ensures none_before { NoneMet 0 from.new region.now self.now.regions }
     {
         sel_tree::laws::the_first_box_that_meets_is_found();
-        match self.regions.first_met(0, region) {
-            Some(index) => Some(PlacedBox {
-                region: self.regions.as_slice()[index],
-                line: self.marks[index].line,
-            }),
+        match self.regions.first_met(*from, region) {
+            Some(index) => {
+                *from = index;
+                Some(PlacedBox {
+                    region: self.regions.as_slice()[index],
+                    line: self.marks[index].line,
+                })
+            }
             None => None,
         }
     }

@@ -2,9 +2,11 @@ ghost use Rattle.std.specs.Prelude.{◌≡◌};
 ghost use Rattle.sel_box.specs.Boxes.{range_at};
 ghost use Rattle.cert_make.specs.Rule.{axes, cut_value, node_between, split_along};
 ghost use Rattle.cert_make.specs.inner.Sides.{node_by};
+ghost use Rattle.cert_make.specs.inner.Starts.{IsStart};
 
 use crate::listed::Listed;
 use crate::placed::PlacedBox;
+use crate::starts::Start;
 use cert_text::Node;
 use sel_box::{AnyBox, AxisName, Region, least_packet};
 
@@ -17,14 +19,19 @@ const AXES: [AxisName; 5] = [
     AxisName::RemoteField,
 ];
 
-// The node over a box, by the boxes of both gateways.
-pub fn node_for(ours: &Listed, theirs: &Listed, region: &AnyBox) -> Node
-    ensures { result ≡ node_by ours.now theirs.now region.now }
+// The node over a box, by the boxes of both gateways. The searches begin at a start, which then is
+// where those in a part of the box begin.
+pub fn node_for(ours: &Listed, theirs: &Listed, region: &AnyBox, start: &mut Start) -> Node
+    requires { IsStart ours.now theirs.now region.now start.old }
+    ensures node { result ≡ node_by ours.now theirs.now region.now }
+    ensures behind { IsStart ours.now theirs.now region.now start.new }
 {
     if least_packet(region).is_none() {
         return Node::Void;
     }
-    match (ours.first_met(region), theirs.first_met(region)) {
+    let first = ours.first_met(&mut start.ours, region);
+    let second = theirs.first_met(&mut start.theirs, region);
+    match (first, second) {
         (Some(ours), Some(theirs)) => node_between(region, &ours, &theirs),
         _ => Node::Void,
     }

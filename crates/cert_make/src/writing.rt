@@ -11,6 +11,7 @@ ghost use Rattle.cert_make.specs.inner.Sides.{node_by, trees_text};
 use crate::MakeFault;
 use crate::listed::Listed;
 use crate::rule::node_for;
+use crate::starts::Starts;
 use cert_rows::{Gateway, Todo};
 use cert_text::{Node, print_node};
 use pair_io::{Sink, write_all};
@@ -32,9 +33,9 @@ use std::alloc::Global;
 /// do the certificate is valid. The nodes are handed to `write_all` line by line. Where the call
 /// fails, the lines before one, and maybe the first bytes of that one, have been written.
 ///
-/// Gathers the boxes of both policies in n log n time and memory for each box, and finds the first
-/// box for each node in a tree of all boxes. It takes memory for the boxes whose trees are still to
-/// come, and calls nothing by recursion.
+/// Gathers the boxes of both policies in n log n time and memory for each box. It finds the first
+/// boxes for each node in a tree of all boxes, and not before those of the box that it is a part
+/// of. It takes memory for the boxes whose trees are still to come, and calls nothing by recursion.
 pub fn make<L: Lines, M: Lines, O: Sink>(
     alloc: Global,
     a: &L,
@@ -71,11 +72,14 @@ fn write_trees<O: Sink>(
     ensures no_fault { OnOk result (O.faults out.new ≡ O.faults out.old) }
 {
     let mut todo = Todo::new(alloc)?;
+    let mut starts = Starts::new(alloc);
     let mut text = Vec::new(alloc);
     while let Some(region) = todo.pop() {
-        let node = node_for(ours, theirs, &region);
+        let mut start = starts.pop();
+        let node = node_for(ours, theirs, &region, &mut start);
         write_node(region.family(), &node, &mut text, out)?;
         todo.add_parts(&node, &region)?;
+        starts.add_behind(&node, start)?;
     }
     Ok(())
 }
