@@ -11,7 +11,7 @@ use Rattle.cert_text.specs.Valid.{holds, rule_of}
 use Rattle.cert_check.specs.declared.answer.CheckFault.{CheckFault}
 use Rattle.cert_check.specs.declared.answer.Checked.{Checked}
 use Rattle.cert_rows.specs.declared.gateway.Gateway.TheVariants.{A, B}
-use Rattle.cert_check.specs.declared.side.Side.{Side}
+use Rattle.cert_rows.specs.declared.side.Side.{Side}
 use Rattle.cert_check.specs.Answer.{check_answer}
 use Rattle.cert_rows.specs.Gathered.{AreGathered, rows_at}
 use Rattle.cert_check.specs.inner.Scan.{scan}

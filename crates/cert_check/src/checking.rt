@@ -8,9 +8,8 @@ ghost use Rattle.cert_check.specs.declared.answer.Checked.{Checked};
 ghost use Rattle.cert_check.specs.inner.Steps.{answer_behind, behind_agree, broken_by, rule_by};
 
 use crate::rule::holds;
-use crate::side::Side;
 use crate::{CheckFault, Checked, laws};
-use cert_rows::{Gateway, Todo};
+use cert_rows::{Gateway, Side, Todo};
 use cert_text::{Node, read_node};
 use sel_box::AnyBox;
 use sel_text::place_of;

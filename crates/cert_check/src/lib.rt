@@ -9,4 +9,3 @@ mod answer;
 mod checking;
 pub mod laws;
 mod rule;
-mod side;

@@ -1,11 +1,12 @@
 ghost use Rattle.std.specs.Prelude.{◌≡◌};
 ghost use Rattle.spd_line.specs.Agree.{same_judgement};
 ghost use Rattle.cert_text.specs.Valid.{both_same};
+ghost use Rattle.cert_check.specs.inner.Scan.{scan};
 ghost use Rattle.cert_check.specs.inner.Steps.{rule_by};
 
-use crate::side::Side;
+use cert_rows::Side;
 use cert_text::{Node, split};
-use sel_box::{AnyBox, least_packet};
+use sel_box::{AnyBox, Region, least_packet};
 use spd_line::Judgement;
 
 // Whether a node holds of its box, by the boxes of both gateways.
@@ -14,9 +15,31 @@ pub fn holds(ours: &Side, theirs: &Side, node: &Node, region: &AnyBox) -> bool
 {
     match node {
         Node::Split { axis, value } => split(region, *axis, *value).is_some(),
-        Node::Leaf { a, b } => { both_same(ours.decided(*a, region), theirs.decided(*b, region)) }
+        Node::Leaf { a, b } => { both_same(decided(ours, *a, region), decided(theirs, *b, region)) }
         Node::Void => least_packet(region).is_none(),
     }
+}
+
+// How the line at a place judges the points of a box: the box lies in one of the line's, and meets
+// none of an earlier line. `None` where the line doesn't decide it.
+//
+// Looks at boxes of the line that meet the box alone, up to the first in which it lies.
+fn decided(side: &Side, line: u32, region: &AnyBox) -> Option<Judgement>
+    ensures { result ≡ scan line region.now side.now.regions side.now.marks.items }
+{
+    sel_tree::laws::the_first_box_that_meets_is_found();
+    let mut from = 0;
+    while let Some(index) = side.regions.first_met(from, region) {
+        let mark = &side.marks[index];
+        if mark.line != line {
+            return None;
+        }
+        if region.within(&side.regions.as_slice()[index]) {
+            return Some(mark.judgement);
+        }
+        from = index + 1;
+    }
+    None
 }
 
 // Whether there are two judgements, and they are the same.

@@ -13,7 +13,7 @@ use Rattle.cert_text.specs.declared.node.Node.{Node}
 use Rattle.cert_text.specs.Split.{split_box}
 use Rattle.cert_text.specs.Valid.{parts, parts_by}
 use Rattle.cert_check.proofs.Agrees.{split-has}
-use Rattle.cert_make.specs.declared.listed.Listed.{Listed}
+use Rattle.cert_rows.specs.declared.side.Side.{Side}
 use Rattle.cert_make.specs.declared.starts.Start.{Start}
 use Rattle.cert_make.specs.inner.Starts.{AreStarts, IsStart, first_start, starts_behind, without_first}
 use Rattle.cert_make.proofs.Cuts.{common_point}
@@ -68,7 +68,7 @@ in_second : (whole first second : Bool) → whole ≡ (first || second) → seco
 in_second whole true second is has = is
 in_second whole false second is has = is ∙ has
 
-module _ (ours theirs : Listed) where
+module _ (ours theirs : Side) where
   start-inside : (b p : AnyBox) (start : Start) → Inside p b → IsStart ours theirs b start → IsStart ours theirs p start
   start-inside b p start inside is = record {
     of_ours = none-inside b p inside ours.regions start.ours is.of_ours;

@@ -9,24 +9,27 @@ use Rattle.cert_text.specs.NodeText.{node_text}
 use Rattle.spd_line.specs.declared.line.LineParts.{LineParts}
 use Rattle.cert_text.specs.Valid.{parts, whole_boxes}
 use Rattle.cert_rows.specs.declared.gateway.Gateway.TheVariants.{A, B}
-use Rattle.cert_rows.specs.Gathered.{rows_at}
+use Rattle.cert_rows.specs.Gathered.{AreGathered, rows_at}
 use Rattle.cert_rows.proofs.Gathers.{rows_at-a, rows_at-b}
-use Rattle.cert_make.specs.declared.listed.Listed.{Listed}
+use Rattle.cert_rows.specs.declared.side.Side.{Side}
 use Rattle.cert_make.specs.declared.placed.PlacedBox.{PlacedBox}
 use Rattle.cert_make.specs.Rule.{node_for, placed}
 use Rattle.cert_make.specs.Text.{node_lines, nodes_text}
 use Rattle.cert_make.specs.Trees.{made_nodes, trees_of}
 use Rattle.cert_make.specs.inner.Sides.{node_by, placed_of, trees_text}
+use Rattle.cert_make.proofs.Gathering.{gathered-placed}
 use Rattle.cert_make.proofs.Smaller.{trees_of-none, trees_of-step}
 
 -- The text by the boxes that were gathered of two policies is that of the nodes that are made of them.
-pub made_text : (ours theirs : Listed) (a b : List LineParts) → placed_of ours ≡ placed 1 (rows_at A a)
-    → placed_of theirs ≡ placed 1 (rows_at B b) → trees_text (node_by ours theirs) whole_boxes ≡ nodes_text (made_nodes a b)
-made_text ours theirs a b ours_are theirs_are =
+pub made_text : (a b : List LineParts) (ours theirs : Side) → AreGathered (rows_at A a) ours.regions ours.marks.items
+    → AreGathered (rows_at B b) theirs.regions theirs.marks.items
+    → trees_text (node_by ours theirs) whole_boxes ≡ nodes_text (made_nodes a b)
+made_text a b ours theirs ours_are theirs_are =
     ap₂ (λ (x y : List PlacedBox). trees_text (node_for x y) whole_boxes)
-    (ours_are ∙ ap (placed 1) (rows_at-a a)) (theirs_are ∙ ap (placed 1) (rows_at-b b))
+    (gathered-placed (rows_at A a) ours.regions ours.marks.items ours_are ∙ ap (placed 1) (rows_at-a a))
+    (gathered-placed (rows_at B b) theirs.regions theirs.marks.items theirs_are ∙ ap (placed 1) (rows_at-b b))
 
-module _ (ours theirs : Listed) where
+module _ (ours theirs : Side) where
   -- Nothing is left where no box is.
   pub left_none : (todo : List AnyBox) → todo ≡ [] → trees_text (node_by ours theirs) todo ≡ []
   left_none todo is =

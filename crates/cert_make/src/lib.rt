@@ -8,7 +8,6 @@ pub use writing::make;
 
 mod fault;
 pub mod laws;
-mod listed;
 mod placed;
 mod rule;
 mod starts;

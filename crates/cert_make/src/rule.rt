@@ -1,12 +1,13 @@
 ghost use Rattle.std.specs.Prelude.{◌≡◌};
 ghost use Rattle.sel_box.specs.Boxes.{range_at};
-ghost use Rattle.cert_make.specs.Rule.{axes, cut_value, node_between, split_along};
-ghost use Rattle.cert_make.specs.inner.Sides.{node_by};
+ghost use Rattle.sel_tree.specs.FirstMet.{NoneMet};
+ghost use Rattle.cert_make.specs.Rule.{axes, cut_value, first_met, node_between, split_along};
+ghost use Rattle.cert_make.specs.inner.Sides.{node_by, placed_of};
 ghost use Rattle.cert_make.specs.inner.Starts.{IsStart};
 
-use crate::listed::Listed;
 use crate::placed::PlacedBox;
 use crate::starts::Start;
+use cert_rows::Side;
 use cert_text::Node;
 use sel_box::{AnyBox, AxisName, Region, least_packet};
 
@@ -21,7 +22,7 @@ const AXES: [AxisName; 5] = [
 
 // The node over a box, by the boxes of both gateways. The searches begin at a start, which then is
 // where those in a part of the box begin.
-pub fn node_for(ours: &Listed, theirs: &Listed, region: &AnyBox, start: &mut Start) -> Node
+pub fn node_for(ours: &Side, theirs: &Side, region: &AnyBox, start: &mut Start) -> Node
     requires { IsStart ours.now theirs.now region.now start.old }
     ensures node { result ≡ node_by ours.now theirs.now region.now }
     ensures behind { IsStart ours.now theirs.now region.now start.new }
@@ -29,11 +30,31 @@ pub fn node_for(ours: &Listed, theirs: &Listed, region: &AnyBox, start: &mut Sta
     if least_packet(region).is_none() {
         return Node::Void;
     }
-    let first = ours.first_met(&mut start.ours, region);
-    let second = theirs.first_met(&mut start.theirs, region);
+    let first = first_met(ours, &mut start.ours, region);
+    let second = first_met(theirs, &mut start.theirs, region);
     match (first, second) {
         (Some(ours), Some(theirs)) => node_between(region, &ours, &theirs),
         _ => Node::Void,
+    }
+}
+
+// The first box that has a point of the region, where none before an index has; the index is then
+// that box's own. Found without a look at each.
+fn first_met(side: &Side, from: &mut usize, region: &AnyBox) -> Option<PlacedBox>
+    requires { NoneMet 0 from.old region.now side.now.regions }
+    ensures met { result ≡ first_met region.now (placed_of side.now) }
+    ensures none_before { NoneMet 0 from.new region.now side.now.regions }
+{
+    sel_tree::laws::the_first_box_that_meets_is_found();
+    match side.regions.first_met(*from, region) {
+        Some(index) => {
+            *from = index;
+            Some(PlacedBox {
+                region: side.regions.as_slice()[index],
+                line: side.marks[index].line,
+            })
+        }
+        None => None,
     }
 }
 

@@ -9,10 +9,9 @@ ghost use Rattle.cert_make.specs.Trees.{made_nodes};
 ghost use Rattle.cert_make.specs.inner.Sides.{node_by, trees_text};
 
 use crate::MakeFault;
-use crate::listed::Listed;
 use crate::rule::node_for;
 use crate::starts::Starts;
-use cert_rows::{Gateway, Todo};
+use cert_rows::{Gateway, Side, Todo};
 use cert_text::{Node, print_node};
 use pair_io::{Sink, write_all};
 use sel_box::Family;
@@ -51,8 +50,8 @@ pub fn make<L: Lines, M: Lines, O: Sink>(
     ensures causes { IfErr result (MakeCauses (O.faults out.old) (O.faults out.new)) }
     ensures no_fault { OnOk result (O.faults out.new ≡ O.faults out.old) }
 {
-    let ours = Listed::new(alloc, a, Gateway::A)?;
-    let theirs = Listed::new(alloc, b, Gateway::B)?;
+    let ours = Side::new(alloc, a, Gateway::A)?;
+    let theirs = Side::new(alloc, b, Gateway::B)?;
     write_trees(alloc, &ours, &theirs, out)
 }
 
@@ -60,8 +59,8 @@ pub fn make<L: Lines, M: Lines, O: Sink>(
 #[tactic(auto, using(pair_io::proofs::Gains::gains))]
 fn write_trees<O: Sink>(
     alloc: Global,
-    ours: &Listed,
-    theirs: &Listed,
+    ours: &Side,
+    theirs: &Side,
     out: &mut O,
 ) -> Result<(), MakeFault>
     ensures written { OnOk result (Gains (O.told out.old) (O.told out.new)

@@ -5,7 +5,7 @@ ghost use Rattle.cert_rows.specs.Gathered.{row_seen, rows_at};
 
 use crate::NoMemory;
 use crate::gateway::Gateway;
-use sel_box::AnyBox;
+use sel_box::RegionList;
 use spd_line::{Judgement, LineBox, Lines};
 use std::alloc::Global;
 
@@ -16,25 +16,23 @@ pub struct Mark {
     pub judgement: Judgement,
 }
 
-/// Boxes, line by line: the region of each, and its mark at the same index.
+// Boxes, line by line: the region of each, and its mark at the same index.
 #[derive(Drop)]
 pub struct Boxes {
-    pub regions: Vec<AnyBox>,
+    pub regions: RegionList,
     pub marks: Vec<Mark>,
 }
 
 impl Boxes {
-    /// The boxes of a gateway's policy as A sees them, in the order of its lines and within a line
-    /// in the order of `spd_line::boxes`, those of `final` last.
-    ///
-    /// Takes time and memory in proportion to the boxes, some 200 bytes for each.
+    // The boxes of a gateway's policy as A sees them, in the order of its lines and within a line
+    // in the order of `spd_line::boxes`, those of `final` last.
     pub fn gather<L: Lines>(alloc: Global, lines: &L, gateway: Gateway) -> Result<Boxes, NoMemory>
         requires { length (L.lines lines.now) ≤ most_lines }
         ensures { IfOk result (λ boxes. AreGathered (rows_at gateway (L.lines lines.now))
-            boxes.regions.items boxes.marks.items) }
+            boxes.regions boxes.marks.items) }
     {
         let mut all = Boxes {
-            regions: Vec::new(alloc),
+            regions: RegionList::new(alloc),
             marks: Vec::new(alloc),
         };
         let count = lines.count();
@@ -49,8 +47,7 @@ impl Boxes {
     // Puts the boxes of the line at a place at the end.
     fn add_row(&mut self, gateway: Gateway, place: u32, row: &[LineBox]) -> Result<(), NoMemory>
         ensures regions { OnOk result
-            (self.new.regions.items
-            ≡ self.old.regions.items ++ regions_in (row_seen gateway row.now)) }
+            (self.new.regions ≡ self.old.regions ++ regions_in (row_seen gateway row.now)) }
         ensures marks { OnOk result
             (self.new.marks.items
             ≡ self.old.marks.items ++ marks_in place (row_seen gateway row.now)) }

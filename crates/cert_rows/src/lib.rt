@@ -3,12 +3,14 @@
 //! are still to come (RFC 4301 section 4.4.1).
 #![tactic(auto)]
 
-pub use boxes::{Boxes, Mark};
+pub use boxes::Mark;
 pub use gateway::Gateway;
 pub use lists::NoMemory;
+pub use side::Side;
 pub use todo::Todo;
 
 mod boxes;
 mod gateway;
 pub mod laws;
+mod side;
 mod todo;

@@ -7,7 +7,7 @@ use Rattle.cert_text.specs.declared.node.Node.{Node}
 use Rattle.cert_text.specs.Certificate.{read_nodes}
 use Rattle.cert_text.specs.Valid.{first_broken, rule_of, whole_boxes}
 use Rattle.cert_check.specs.declared.answer.Checked.{Checked}
-use Rattle.cert_check.specs.declared.side.Side.{Side}
+use Rattle.cert_rows.specs.declared.side.Side.{Side}
 use Rattle.cert_check.specs.Answer.{checked}
 use Rattle.cert_check.specs.inner.Scan.{scan}
 

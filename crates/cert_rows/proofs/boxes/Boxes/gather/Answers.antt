@@ -8,8 +8,8 @@ loop-place-preserved g c =
     let lines = g.L.Lines.lines c.args.lines.now in
     let row_is = c.as_slice.ensures ∙ c.in_ok-row.ensures.boxes ∙ ap (λ d. line_boxes d c.line.result.now) c.direction.ensures in
     record {
-      regions = gathered-regions c.args.gateway c.loop-place.place lines c.line.result.now c.loop-place.all.regions.items
-          c.add_row.new.self.regions.items c.as_slice.result.now c.line.ensures row_is c.in_ok-add_row.ensures.regions
+      regions = gathered-regions c.args.gateway c.loop-place.place lines c.line.result.now c.loop-place.all.regions
+          c.add_row.new.self.regions c.as_slice.result.now c.line.ensures row_is c.in_ok-add_row.ensures.regions
           ∙ c.loop-place.invariant.regions;
       marks = gathered-marks c.args.gateway c.loop-place.place lines c.line.result.now c.loop-place.all.marks.items
           c.add_row.new.self.marks.items c.as_slice.result.now c.line.ensures row_is c.in_ok-add_row.ensures.marks

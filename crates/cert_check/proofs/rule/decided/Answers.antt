@@ -1,10 +1,10 @@
 use Rattle.std.proofs.Common.{sym, ◌∙◌, add-one}
 use Rattle.cert_check.proofs.Scans.{scan-held, scan-missed, scan-past, scan-stopped}
-use Rattle.cert_check.proofs.side.Side.decided.Goals as goal
+use Rattle.cert_check.proofs.rule.decided.Goals as goal
 
 pub returns-then-mark-line : goal.returns-then-mark-line
 returns-then-mark-line c =
-    let side = c.args.self.now in
+    let side = c.args.side.now in
     let first = c.the_first_box_that_meets_is_found.ensures.found c.loop-index.from c.args.region.now side.regions c.in-Some.index
     (sym c.first_met.ensures ∙ c.in-Some.is) in
     sym (scan-stopped c.args.line c.args.region.now c.loop-index.from c.in-Some.index side.regions side.marks.items c.index-mark.result.now
@@ -13,7 +13,7 @@ returns-then-mark-line c =
 
 pub returns-then-within : goal.returns-then-within
 returns-then-within c =
-    let side = c.args.self.now in
+    let side = c.args.side.now in
     let region = c.index-as_slice-index.result in
     let first = c.the_first_box_that_meets_is_found.ensures.found c.loop-index.from c.args.region.now side.regions c.in-Some.index
     (sym c.first_met.ensures ∙ c.in-Some.is) in
@@ -23,7 +23,7 @@ returns-then-within c =
 
 pub loop-index-preserved : goal.loop-index-preserved
 loop-index-preserved c =
-    let side = c.args.self.now in
+    let side = c.args.side.now in
     let region = c.index-as_slice-index.result in
     let first = c.the_first_box_that_meets_is_found.ensures.found c.loop-index.from c.args.region.now side.regions c.in-Some.index
     (sym c.first_met.ensures ∙ c.in-Some.is) in
@@ -34,7 +34,7 @@ loop-index-preserved c =
 
 pub returns : goal.returns
 returns c =
-    let side = c.args.self.now in
+    let side = c.args.side.now in
     let none = c.the_first_box_that_meets_is_found.ensures.none c.loop-index.from c.args.region.now side.regions
     (sym c.first_met.ensures ∙ c.in_default.is) in
     sym (scan-missed c.args.line c.args.region.now c.loop-index.from side.regions side.marks.items side.alike none)
