@@ -27,7 +27,7 @@ side-decides side rows gathered =
 module _ (a b : List LineParts) (ours theirs : Side)
     (ours_are : AreGathered (rows_at A a) ours.regions ours.marks.items) (theirs_are : AreGathered (rows_at B b) theirs.regions theirs.marks.items)
   where
-    sides-rule : rule_by ours theirs ≡ holds (a_rows a) (b_rows b)
+    pub sides-rule : rule_by ours theirs ≡ holds (a_rows a) (b_rows b)
     sides-rule =
         ap₂ rule_of (side-decides ours (rows_at A a) ours_are ∙ ap decided_at (rows_at-a a))
         (side-decides theirs (rows_at B b) theirs_are ∙ ap decided_at (rows_at-b b))

@@ -4,6 +4,7 @@
 pub use answer::{CheckFault, Checked};
 pub use checking::check;
 pub use lists::NoMemory;
+pub use rule::node_holds;
 
 mod answer;
 mod checking;

@@ -1,6 +1,10 @@
-ghost use Rattle.std.specs.Prelude.{◌≡◌};
+ghost use Rattle.std.specs.Prelude.{◌≡◌, List};
 ghost use Rattle.spd_line.specs.Agree.{same_judgement};
-ghost use Rattle.cert_text.specs.Valid.{both_same};
+ghost use Rattle.spd_line.specs.declared.line.LineParts.{LineParts};
+ghost use Rattle.cert_rows.specs.Gathered.{AreGathered, rows_at};
+ghost use Rattle.cert_rows.specs.declared.gateway.Gateway.{Gateway};
+ghost use Rattle.cert_text.specs.Rows.{a_rows, b_rows};
+ghost use Rattle.cert_text.specs.Valid.{both_same, holds};
 ghost use Rattle.cert_check.specs.inner.Scan.{scan};
 ghost use Rattle.cert_check.specs.inner.Steps.{rule_by};
 
@@ -9,7 +13,19 @@ use cert_text::{Node, split};
 use sel_box::{AnyBox, Region, least_packet};
 use spd_line::Judgement;
 
-// Whether a node holds of its box, by the boxes of both gateways.
+/// Whether a node holds of its box, by the boxes of A's and of B's policy: a split cuts the box in
+/// two; the lines of a leaf decide it, and judge it alike; a `void` box has no packet. Takes no
+/// memory.
+pub fn node_holds(ours: &Side, theirs: &Side, node: &Node, region: &AnyBox) -> bool
+    ensures { (a b : List LineParts)
+        → AreGathered (rows_at Gateway.A a) ours.now.regions ours.now.marks.items
+        → AreGathered (rows_at Gateway.B b) theirs.now.regions theirs.now.marks.items
+        → result ≡ holds (a_rows a) (b_rows b) node.now region.now }
+{
+    holds(ours, theirs, node, region)
+}
+
+// The same, said by the boxes themselves.
 pub fn holds(ours: &Side, theirs: &Side, node: &Node, region: &AnyBox) -> bool
     ensures { result ≡ rule_by ours.now theirs.now node.now region.now }
 {

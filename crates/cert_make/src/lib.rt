@@ -2,10 +2,12 @@
 //! section 5).
 #![tactic(auto)]
 
+pub use agreeing::agree;
 pub use fault::MakeFault;
 pub use lists::NoMemory;
 pub use writing::make;
 
+mod agreeing;
 mod fault;
 pub mod laws;
 mod placed;
