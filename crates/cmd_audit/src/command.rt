@@ -48,8 +48,9 @@ impl<'a> Audit<'a> {
     /// destination, protocol and fields, and both verdicts on it.
     ///
     /// A's policy is loaded and cut outbound before B's is loaded, which is cut inbound alone. Then
-    /// it takes time by the number of A's entries and of the pairs that meet and are judged
-    /// differently, and memory for a tree of B's entries; and where they agree what `make` takes.
+    /// it takes what `cert_make::agree` takes; where they agree also what `make` takes, and else
+    /// time by the number of A's entries and of the pairs that meet and are judged differently, and
+    /// memory for a tree of B's entries.
     pub fn run<F: Files, O: Sink>(
         &self,
         alloc: Global,

@@ -13,7 +13,7 @@ ghost use Rattle.spd_cut.specs.Entries.{entries};
 use crate::AuditEnd;
 use crate::answer_lines::{Agreement, GapLines};
 use audit_frame::{NoMemory, WriteRefused, write_line, write_lines};
-use cert_make::{MakeFault, make};
+use cert_make::{MakeFault, agree, make};
 use pair_gap::{Gap, PeerEntries, least_gap};
 use pair_io::Sink;
 use spd_cut::Entry;
@@ -41,7 +41,8 @@ pub fn write_answer<O: Sink>(
     write_found(alloc, a, b, &gap, out)
 }
 
-// The least gap of two policies.
+// The least gap of two policies. It is looked for only where they don't agree, which a walk through
+// their certificate finds out sooner.
 fn find_gap(
     alloc: Global,
     a: &LineList,
@@ -49,6 +50,8 @@ fn find_gap(
     outbound: &[Entry],
     inbound: &[Entry],
 ) -> Result<Option<Gap>, NoMemory>
+    requires few_a { length a.now ≤ 4096 }
+    requires few_b { length b.now ≤ 4096 }
     requires outbound { outbound.now ≡ entries Outbound a.now }
     requires inbound { inbound.now ≡ entries Inbound b.now }
     ensures gap { IfOk result (λ gap.
@@ -57,6 +60,12 @@ fn find_gap(
 {
     spd_cut::laws::entries_stand_for();
     spd_line::laws::the_first_line_is_the_least();
+    pair_gap::laws::the_least_gap_is_found();
+    pair_gap::laws::one_least_gap();
+    let alike = agree(alloc, a, b)?;
+    if alike {
+        return Ok(None);
+    }
     let peer = PeerEntries::new(alloc, inbound)?;
     Ok(least_gap(outbound, &peer))
 }
