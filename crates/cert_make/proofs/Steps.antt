@@ -12,7 +12,6 @@ use Rattle.cert_rows.specs.declared.gateway.Gateway.TheVariants.{A, B}
 use Rattle.cert_rows.specs.Gathered.{rows_at}
 use Rattle.cert_rows.proofs.Gathers.{rows_at-a, rows_at-b}
 use Rattle.cert_rows.specs.declared.side.Side.{Side}
-use Rattle.cert_make.specs.declared.placed.PlacedBox.{PlacedBox}
 use Rattle.cert_make.specs.Rule.{made_node, node_for, placed}
 use Rattle.cert_make.specs.Text.{node_lines, nodes_text}
 use Rattle.cert_make.specs.Trees.{made_nodes, trees_of}

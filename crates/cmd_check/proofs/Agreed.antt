@@ -1,5 +1,5 @@
 -- A run that ended as accepted was given two policies that agree.
-use Rattle.std.proofs.Common.{◌≡◌, ℕ, List, [], ◌∷◌, ◌++◌, codes, Option, Some, Result, Ok, Err, refl, sym, subst}
+use Rattle.std.proofs.Common.{◌≡◌, ℕ, List, Option, Some, Result, Ok, Err, refl, subst}
 use Rattle.pair_io.specs.Gains.{Gains}
 use Rattle.spd_line.specs.declared.line.LineParts.{LineParts}
 use Rattle.spd_line.specs.Agree.{Agree}
@@ -7,7 +7,7 @@ use Rattle.cert_check.specs.declared.answer.Checked.{Checked}
 use Rattle.cert_check.specs.Answer as checker
 use Rattle.audit_frame.specs.declared.refusal.Refusal.{Refusal}
 use Rattle.audit_frame.specs.Answer.{text_of}
-use Rattle.audit_frame.specs.Ends.{Ends, IsAnswer}
+use Rattle.audit_frame.specs.Ends.{Ends}
 use Rattle.audit_frame.proofs.Done.{Ends-content, Ends-lines}
 use Rattle.cmd_check.specs.declared.command.Check.{Check}
 use Rattle.cmd_check.specs.declared.command.CheckEnd.{CheckEnd}

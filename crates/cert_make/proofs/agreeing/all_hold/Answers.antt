@@ -1,9 +1,8 @@
-use Rattle.std.proofs.Common.{◌≡◌, Bool, ◌&&◌, ◌++◌, List, refl, sym, ap, ◌∙◌}
-use Rattle.sel_box.specs.declared.any_box.AnyBox.{AnyBox}
+use Rattle.std.proofs.Common.{Bool, ◌&&◌, ◌++◌, refl, sym, ap, ◌∙◌}
 use Rattle.cert_text.specs.Rows.{a_rows, b_rows}
 use Rattle.cert_text.specs.Valid.{holds, parts, valid}
 use Rattle.cert_make.specs.Trees.{trees_of}
-use Rattle.cert_make.specs.inner.Sides.{are_valid, node_by}
+use Rattle.cert_make.specs.inner.Sides.{node_by}
 use Rattle.cert_make.proofs.Searches.{starts-added, starts-taken}
 use Rattle.cert_make.proofs.Steps.{left_done, left_fewer, left_valid}
 use Rattle.cert_make.proofs.agreeing.all_hold.Goals as goal
