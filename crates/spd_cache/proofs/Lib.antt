@@ -1,4 +1,5 @@
 pub mod Hits
 pub mod Kept
 pub mod Named
+pub mod Under
 pub mod Widened

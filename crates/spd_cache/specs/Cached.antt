@@ -1,5 +1,5 @@
 -- A cache: groups of boxes under keys, the most recently used first (RFC 4301 section 4.4.2).
-use Rattle.std.specs.Prelude.{ℕ, ◌<◌, ◌≤◌, Bool, ◌&&◌, List, [], ◌∷◌, length, take, Option, Some, None, option_map, if◌then◌else◌}
+use Rattle.std.specs.Prelude.{◌≡◌, ℕ, ◌<◌, ◌≤◌, Bool, ◌&&◌, List, [], ◌∷◌, All, length, take, Option, Some, None, IfSome, option_map, if◌then◌else◌}
 use Rattle.std.specs.List.{IsDistinct, find, list_any}
 use Rattle.std.specs.Map.{keys_of, lookup_entry, remove_entry}
 use Rattle.std.specs.Option.{option_map_or, option_or}
@@ -53,6 +53,10 @@ hit d x cell =
 abbrev pub first_hit : Direction → PointFields → List Cell → Option (Key × Answer)
 first_hit d x [] = None
 first_hit d x (cell ∷ cells) = option_or (hit d x cell) (first_hit d x cells)
+
+-- Each group that a point is answered from answers it as the first such group does.
+abbrev pub IsAnsweredAlike : Direction → PointFields → List Cell → Type 0
+IsAnsweredAlike d x cells = All (λ cell. IfSome (hit d x cell) (λ found. first_hit d x cells ≡ Some found)) cells
 
 -- The group under a key that passes goes first.
 abbrev pub to_front : (Key → Bool) → List Cell → List Cell

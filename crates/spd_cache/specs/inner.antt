@@ -1,2 +1,3 @@
 -- What is kept inside. No public clause cites this.
 pub mod Hulls
+pub mod Under

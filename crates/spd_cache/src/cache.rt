@@ -1,11 +1,13 @@
-ghost use Rattle.std.specs.Prelude.{◌≡◌, ◌≤◌, ◌==◌, [], IfOk, IfErr, IsOk, IsSome, OnErr, OnOk};
+ghost use Rattle.std.specs.Prelude.{◌≡◌, ◌≤◌, ◌==◌, [], IfOk, IfErr, IfSome, IsOk, IsSome, OnErr, OnOk};
 ghost use Rattle.std.specs.Prelude.{length, option_map};
 ghost use Rattle.std.specs.Map.{lookup};
-ghost use Rattle.spd_cache.specs.Cached.{IsCache, cached, first_hit, fronted, kept};
+ghost use Rattle.spd_cache.specs.Cached.{IsAnsweredAlike, IsCache, cached, first_hit, fronted, kept};
 ghost use Rattle.spd_cache.specs.Key.{same_key};
+ghost use Rattle.spd_cache.specs.inner.Under.{LacksUnder};
 
+use crate::hints::Hints;
 use crate::hulled::HulledGroup;
-use crate::look::first_hit;
+use crate::look::{answer_under, first_hit};
 use crate::{Key, NoMemory};
 use lru::LruCache;
 use sel_box::{Direction, Point};
@@ -17,11 +19,15 @@ use std::num::NonZeroUsize;
 /// The most groups that a cache may hold.
 pub const MOST_GROUPS: usize = 4096;
 
+// So many groups are looked at in no more time than a hint takes.
+const FEW_GROUPS: usize = 64;
+
 /// A cache of a policy (RFC 4301 section 4.4.2): groups of boxes under keys. A contract sees the
 /// list of its keys and groups, the most recently used first, and how many it holds at most.
 #[derive(Drop)]
 pub struct Cache {
     groups: LruCache<Key, HulledGroup>,
+    hints: Hints,
 }
 
 impl Model for Cache {
@@ -33,7 +39,8 @@ impl Model for Cache {
 }
 
 impl Cache {
-    /// The empty cache of so many groups, 1 to 4,096.
+    /// The empty cache of so many groups, 1 to 4,096. Where they are more than 64, it takes memory
+    /// for 16,384 keys, with which `recall` finds groups.
     pub fn new(alloc: Global, capacity: usize) -> Result<Cache, NoMemory>
         requires some { 1 ≤ capacity }
         requires most { capacity ≤ MOST_GROUPS }
@@ -42,6 +49,7 @@ impl Cache {
         match NonZeroUsize::new(capacity) {
             Some(capacity) => Ok(Cache {
                 groups: LruCache::new(alloc, capacity)?,
+                hints: Hints::new(alloc, capacity.get() > FEW_GROUPS)?,
             }),
             None => unreachable!(),
         }
@@ -60,8 +68,52 @@ impl Cache {
             (fronted (first_hit direction point.now self.old.entries) self.old.entries)
             self.old.capacity }
     {
-        let (key, answer) = first_hit(&self.groups, direction, point)?;
+        self.look(None, direction, point)
+    }
+
+    /// The same, where all groups that have the point answer it alike, as those of one policy do.
+    /// Among many groups, the one under whose key the point was answered last is asked before the
+    /// others, and mostly answers at once.
+    ///
+    /// It looks at each group of the direction once at most, and takes no memory.
+    pub fn recall(&mut self, direction: Direction, point: &Point) -> Option<Answer>
+        requires alike { IsAnsweredAlike direction point.now self.now.entries }
+        ensures answer { result
+            ≡ option_map (λ found. found.1) (first_hit direction point.now self.old.entries) }
+        ensures front { self.new ≡ cached
+            (fronted (first_hit direction point.now self.old.entries) self.old.entries)
+            self.old.capacity }
+    {
+        let hint = if self.groups.len() > FEW_GROUPS {
+            self.hints.of(direction, point)
+        } else {
+            None
+        };
+        match hint {
+            Some(noted) => match answer_under(&self.groups, &noted, direction, point) {
+                Some(answer) => {
+                    self.groups.promote(&noted);
+                    Some(answer)
+                }
+                None => self.look(Some(noted), direction, point),
+            },
+            None => self.look(None, direction, point),
+        }
+    }
+
+    // The same as `probe`, without a look at the group that is passed over. The key under which the
+    // point was answered is noted.
+    fn look(&mut self, passed: Option<Key>, direction: Direction, point: &Point) -> Option<Answer>
+        requires { IfSome passed (LacksUnder direction point.now self.now.entries) }
+        ensures answer { result
+            ≡ option_map (λ found. found.1) (first_hit direction point.now self.old.entries) }
+        ensures front { self.new ≡ cached
+            (fronted (first_hit direction point.now self.old.entries) self.old.entries)
+            self.old.capacity }
+    {
+        let (key, answer) = first_hit(&self.groups, passed, direction, point)?;
         self.groups.promote(&key);
+        self.hints.note(direction, point, key);
         Some(answer)
     }
 

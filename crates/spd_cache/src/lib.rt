@@ -7,6 +7,7 @@ pub use key::Key;
 pub use lists::NoMemory;
 
 mod cache;
+mod hints;
 mod hulled;
 mod hulls;
 mod key;

@@ -1,5 +1,6 @@
 -- A cache of a policy's groups answers by the key of a point.
-use Rattle.std.proofs.Common.{◌≡◌, ℕ, Bool, true, false, cond, List, [], ◌∷◌, Option, Some, None, option_map, refl, sym, ap, ap₂, ◌∙◌}
+use Rattle.std.proofs.Common.{◌≡◌, ℕ, zero, suc, ◌<◌, Bool, true, false, cond, List, [], ◌∷◌, length, get_or, Option, Some, None, IfSome, option_map}
+use Rattle.std.proofs.Common.{refl, sym, subst, ap, ap₂, ◌∙◌, arith}
 use Rattle.std.specs.List.{All, find}
 use Rattle.std.specs.Map.{lookup_entry}
 use Rattle.std.specs.Option.{option_or}
@@ -15,7 +16,7 @@ use Rattle.spd_line.specs.declared.line.LineParts.{LineParts}
 use Rattle.spd_line.specs.declared.line_boxes.LineBox.{LineBox}
 use Rattle.spd_line.specs.First.{first_place, name_at, verdict_of}
 use Rattle.spd_cache.specs.declared.key.Key.{Key}
-use Rattle.spd_cache.specs.Cached.{Cell, first_box, first_hit, hit}
+use Rattle.spd_cache.specs.Cached.{Cell, IsAnsweredAlike, first_box, first_hit, hit}
 use Rattle.spd_cache.specs.Key.{same_direction, same_key}
 use Rattle.spd_cache.specs.KeyOf.{key_of}
 use Rattle.spd_cache.specs.laws.Keys.{key_decides, key_equivalence}
@@ -50,6 +51,24 @@ in_front : {A B : Type 0} (f : A → B) (test : Bool) (item : A) (rest : Option 
     option_or (cond test (Some (f item)) None) (option_map f rest) ≡ option_map f (cond test (Some item) rest)
 in_front f true item rest = refl
 in_front f false item rest = refl
+
+-- A cell of the key is there, so one of that key is found.
+module _ (key : Key) (answer : Answer) where
+  abbrev under : Cell → Key × Answer
+  under cell = (cell.0, answer)
+
+  found_under : (cells : List Cell) (k : ℕ) (c : Cell) → k < length cells → same_key key (get_or cells k c).0 ≡ true →
+      option_map under (lookup_entry (same_key key) cells) ≡ Some (under (get_or cells k c))
+  found_under [] k c below is = absurd (omega arith)
+  found_under (cell ∷ cells) zero c below is =
+      ap (λ (here : Bool). option_map under (cond here (Some cell) (lookup_entry (same_key key) cells))) is
+  found_under (cell ∷ cells) (suc k) c below is = go (same_key key cell.0) refl (found_under cells k c (omega arith) is)
+    where
+      go : (here : Bool) → same_key key cell.0 ≡ here → option_map under (lookup_entry (same_key key) cells) ≡ Some (under (get_or cells k c)) →
+          option_map under (cond here (Some cell) (lookup_entry (same_key key) cells)) ≡ Some (under (get_or cells k c))
+      go true first later =
+          ap (λ (one : Key). Some (one, answer)) (sym ((key_decides key cell.0).0 first) ∙ (key_decides key (get_or cells k c).0).0 is)
+      go false first later = later
 
 module _ (d : Direction) (x : PointFields) (lines : List LineParts) where
   -- a box of a group that has the point is judged as the point's first line judges it, and there is one where the key is its own
@@ -106,3 +125,22 @@ module _ (d : Direction) (x : PointFields) (lines : List LineParts) where
       (answers_by_key cells real (All-tail (IsGroup lines) cell cells groups) judged)
       ∙ in_front (λ (c : Cell). (c.0, answer_of d x lines)) (same_key (key_of d x lines) cell.0) cell
       (lookup_entry (same_key (key_of d x lines)) cells)
+
+  -- a group that answers is that of the point's key, so the first answer is its own
+  abbrev Alike : List Cell → Option (Key × Answer) → Type 0
+  Alike cells here = IfSome here (λ (found : Key × Answer). first_hit d x cells ≡ Some found)
+
+  pub answered_alike : (cells : List Cell) → IsReal x → All (IsGroup lines) cells → ((key : Key) → FirstJudged key) → IsAnsweredAlike d x cells
+  answered_alike cells real groups judged k c below = go (same_key (key_of d x lines) (get_or cells k c).0) refl
+    where
+      by_key : (here : Bool) → same_key (key_of d x lines) (get_or cells k c).0 ≡ here →
+          hit d x (get_or cells k c) ≡ cond here (Some ((get_or cells k c).0, answer_of d x lines)) None
+      by_key here is =
+          answers (get_or cells k c) (groups k c below) real (judged (get_or cells k c).0)
+          ∙ ap (λ (test : Bool). cond test (Some ((get_or cells k c).0, answer_of d x lines)) None) is
+
+      go : (here : Bool) → same_key (key_of d x lines) (get_or cells k c).0 ≡ here → Alike cells (hit d x (get_or cells k c))
+      go true is =
+          subst (Alike cells) (sym (by_key true is))
+          (answers_by_key cells real groups judged ∙ found_under (key_of d x lines) (answer_of d x lines) cells k c below is)
+      go false is = subst (Alike cells) (sym (by_key false is)) tt

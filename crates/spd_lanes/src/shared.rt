@@ -129,6 +129,7 @@ impl Shared {
             asked direction packet.now self.old ≡ (reply, self.new)) }
         ensures err { OnErr result (self.new ≡ self.old) }
     {
+        spd_groups::laws::groups_answer_alike();
         spd_groups::laws::groups_answer_by_the_key_of_a_point();
         spd_groups::laws::groups_have_the_points_of_their_keys();
         let _ = packet.family();

@@ -1,4 +1,6 @@
 ghost use Rattle.std.specs.Prelude.{◌≡◌, Ok, Err, IfOk, IfErr, OnErr};
+ghost use Rattle.sel_box.specs.Point.{view_of};
+ghost use Rattle.spd_cache.specs.Cached.{IsAnsweredAlike};
 ghost use Rattle.spd_lanes.specs.Faults.{IsLaneFault};
 ghost use Rattle.spd_lanes.specs.Lane.{ask_step, fill_step, miss_step, search_step, take_step};
 
@@ -135,20 +137,23 @@ pub fn fill(cache: &mut Cache, lane: &mut LaneState) -> Result<Filled, LaneFault
 }
 
 /// Answers a packet at once: from the cache, or else from the policy, and then its group is kept.
-/// After a refusal nothing has changed. It looks at each group of the direction once at most; where
-/// none answers, it takes the time and the memory of `search` and `fill`.
+/// All groups that have the packet's values answer it alike, as those of one policy do.
+///
+/// After a refusal nothing has changed. A hit takes the time of `Cache::recall`, and no memory;
+/// what is no hit takes the time and the memory of `search` and `fill` besides.
 pub fn ask(
     compiled: &Compiled,
     cache: &mut Cache,
     direction: Direction,
     packet: &Packet,
 ) -> Result<PacketAnswer, NoMemory>
+    requires alike { IsAnsweredAlike direction (view_of direction packet.now) cache.now.entries }
     ensures ok { IfOk result (λ reply. ask_step direction packet.now compiled.now.lines cache.old
         ≡ (reply, cache.new)) }
     ensures err { OnErr result (cache.new ≡ cache.old) }
 {
     let point = view(direction, packet);
-    match cache.probe(direction, &point) {
+    match cache.recall(direction, &point) {
         Some(answer) => Ok(PacketAnswer { answer, hit: true }),
         None => ask_policy(compiled, cache, direction, packet),
     }

@@ -22,3 +22,9 @@ returns-clause-ok c =
     (asked-is lines limit cache lanes d p
     (c.groups_answer_by_the_key_of_a_point.ensures d (view_of d p) lines cache.entries real c.self.invariant.groups))
     c.ask.ensures.ok)
+
+pub ask-requires : goal.ask-requires
+ask-requires c = record {
+  alike = c.groups_answer_alike.ensures c.args.direction (view_of c.args.direction c.args.packet.now) c.self.inside.compiled.lines
+      c.self.inside.cache.entries (c.args.direction, (c.args.packet.now, (c.family.ensures.packet, refl))) c.self.invariant.groups;
+}
