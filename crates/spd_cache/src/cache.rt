@@ -72,9 +72,9 @@ impl Cache {
     }
 
     /// The same, where all groups that have the point answer it alike, as those of one policy do.
-    /// Among many groups, the one under whose key the point was answered last is asked before the
-    /// others, or where that isn't known, the one that answered a point of the same networks (/24 of
-    /// IPv4, /64 of IPv6) last. It mostly answers at once.
+    /// Among more than 64 groups, the one under whose key the point was answered last is asked
+    /// before the others, or where that isn't known, the one that answered a point of the same
+    /// networks (/24 of IPv4, /64 of IPv6) last.
     ///
     /// It looks at each group of the direction once at most, and takes no memory.
     pub fn recall(&mut self, direction: Direction, point: &Point) -> Option<Answer>

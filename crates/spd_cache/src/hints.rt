@@ -6,9 +6,9 @@ use std::alloc::Global;
 // How many bits the number of a slot has.
 const SLOT_BITS: u32 = 14;
 
-// Under which key each point was answered last, and the points of each two networks. Marks may share
-// a slot, and a key may be gone or have another group by now, so a hint is a guess that is looked at
-// before it is followed: no clause says anything of it.
+// Under which key each point was answered last, and the points of each pair of networks. Marks may
+// share a slot, and a key may be gone or have another group by now, so a hint is a guess that is
+// looked at before it is followed: no clause says anything of it.
 #[derive(Debug, Drop)]
 pub struct Hints {
     slots: Vec<Option<Hint>>,
@@ -76,8 +76,8 @@ fn mark_of_point(direction: Direction, point: &Point) -> u64 {
     mixed(direction, local, remote)
 }
 
-// The mark of the networks of a point's addresses: /24 of IPv4, /64 of IPv6. One bit sets it apart
-// from that of a point.
+// The mark of the networks of a point's addresses: /24 of IPv4, /64 of IPv6. A bit that no point of
+// IPv4 has sets it apart.
 #[inline]
 fn mark_of_networks(direction: Direction, point: &Point) -> u64 {
     let host_bits = match point.family() {
